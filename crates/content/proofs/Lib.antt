@@ -1,0 +1,2 @@
+mod Days
+pub mod Laws

@@ -1,0 +1,75 @@
+// What a cell holds, and how an image stands on a day. 01, "The shelf and what a cell holds".
+//
+// How to read a promise here and in every other crate. `ensures { λ r. ⌜ .. ⌝ }` says what holds of
+// the result r, for every input: no public function has a `requires`. The names in it are
+// definitions of the crate's specs/ folder, each beside the sentence that it stands for. In it an
+// unsigned number is a natural number and a signed one an integer, of the same value; `now (s
+// .entry)` is the list of a lent slice's elements at the call, `now (s .exit)` the same at the end.
+// A promise is proved for the compiled code's source; nobody has to test it to rely on it.
+ghost use mathlib.Core.Path.{_≡_};
+ghost use Rattle.content.specs.Answer.{given};
+ghost use Rattle.content.specs.Content.{kindOf, dayOf, contentOf};
+ghost use Rattle.content.specs.Standing.{standingOn, said};
+
+// "A cell's content is blank, open, or a day with its signed 32-bit number; each is a case of its
+// own." Blank means never written.
+pub enum Content {
+    Blank,
+    Open,
+    Day(i32),
+}
+
+// The standing of a content on a given day: not known, open, or so many days left.
+pub enum Standing {
+    Unknown,
+    Open,
+    Left(i64),
+}
+
+impl Content {
+    // 01, "Standing": a day gives its number minus today's, exact in 64 bits. Refuses nothing.
+    pub fn standing(self, today: i32) -> Standing
+        ensures { λ r. ⌜ said r ≡ given (standingOn self today) ⌝ }
+    {
+        match self {
+            Content::Blank => Standing::Unknown,
+            Content::Open => Standing::Open,
+            Content::Day(day) => Standing::Left((day as i64) - (today as i64)),
+        }
+    }
+
+    // The number of the kind: 0 blank, 1 open, 2 a day.
+    pub fn kind(self) -> u8
+        ensures { λ r. ⌜ r ≡ kindOf self ⌝ }
+    {
+        match self {
+            Content::Blank => 0,
+            Content::Open => 1,
+            Content::Day(_) => 2,
+        }
+    }
+
+    // The day's number; 0 where the content is no day.
+    pub fn day(self) -> i32
+        ensures { λ r. ⌜ r ≡ dayOf self ⌝ }
+    {
+        match self {
+            Content::Blank => 0,
+            Content::Open => 0,
+            Content::Day(day) => day,
+        }
+    }
+
+    // The content of a kind and a day's number. A kind that is neither 1 nor 2 says nothing: blank.
+    pub fn of(kind: u8, day: i32) -> Content
+        ensures { λ r. ⌜ r ≡ contentOf kind day ⌝ }
+    {
+        if kind == 1 {
+            return Content::Open;
+        }
+        if kind == 2 {
+            return Content::Day(day);
+        }
+        Content::Blank
+    }
+}
