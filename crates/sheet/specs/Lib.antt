@@ -1,0 +1,4 @@
+pub mod Layout
+pub mod Good
+pub mod Parts
+pub mod Reading

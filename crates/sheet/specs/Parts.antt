@@ -1,0 +1,27 @@
+-- What the private functions test: the clauses of `good` that are the trailer's, and those that are the entries'. Nobody need believe
+-- these: the promises of the public functions cite `good`, and that `good` is the two together is proved (proofs/Laws/Good.antt).
+-- Assumes nothing.
+use Prim.Native.Nat.{ℕ, _*_, _%_}
+use mathlib.Core.Bool.{Bool, _&&_}
+use mathlib.Core.List.{List}
+use lib.Dec.{eqb, leb, ltb}
+use Rattle.sheet.specs.declared.Entry.{Entry}
+use Rattle.sheet.specs.declared.Trailer.{Trailer}
+use Rattle.sheet.specs.Good.{every, rising, below, kindAndDay, within}
+
+-- of a trailer that has so many bytes before it
+abbrev pub goodTrailer : Trailer → ℕ → Bool
+goodTrailer t back =
+    (eqb (t .distance) (6 * t .entries) && eqb (t .distance) back)
+    && (within 1 16 (t .desks) && within 1 64 (t .cells))
+    && ltb (t .sender) (t .desks)
+    && (eqb (t .zero6) 0 && eqb (t .zero7) 0)
+    && (leb (t .turn) 4294967294 && eqb (t .turn % t .desks) (t .sender))
+
+-- of one entry that comes after those below `least`
+abbrev pub goodEntry : ℕ → ℕ → Entry → Bool
+goodEntry cells least e = leb least (e .cell) && below cells e && kindAndDay e
+
+-- of entries in a sheet of so many cells
+abbrev pub goodEntries : ℕ → List Entry → Bool
+goodEntries cells es = rising es && every (below cells) es && every kindAndDay es

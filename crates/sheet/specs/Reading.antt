@@ -1,0 +1,39 @@
+-- 01, "Numbers given back": "Reading a sheet: 13", "sheet not good". A good sheet gives its entries and its trailer's numbers.
+-- Assumes nothing.
+use Prim.Native.Nat.{ℕ, _+_, _*_}
+use mathlib.Core.Bool.{not, cond}
+use mathlib.Core.List.{List, [], _∷_}
+use lib.Dec.{leb}
+use lib.ListN.{length, drop}
+use Rattle.content.specs.Answer.{Answer, refused, given, _if_, answer}
+use Rattle.sheet.specs.declared.Entry.{Entry}
+use Rattle.sheet.specs.declared.Numbers.{Numbers}
+use Rattle.sheet.specs.declared.Reading.{Reading}
+use Rattle.sheet.specs.declared.Reading.the-variants as read
+use Rattle.sheet.specs.Layout.{entryOf, entriesOf, trailerIn, numbersOf}
+use Rattle.sheet.specs.Good.{good}
+
+-- what a good sheet gives
+pub record Sheet : Type 0 where
+  pub numbers : Numbers
+  pub entries : List Entry
+
+-- the sheet with these numbers whose entries bytes begin with
+abbrev pub sheetIn : List ℕ → Numbers → Sheet
+sheetIn s n = record { numbers = n; entries = entriesOf (n .entries) s }
+
+-- what reading bytes gives
+unfoldable pub readOf : List ℕ → Answer Sheet
+readOf s = answer (13 if not (good s) ∷ []) (sheetIn s (numbersOf (trailerIn s)))
+
+-- what the answer to reading the bytes s says: the entries stay in the bytes, and are read where they stand
+abbrev pub saidRead : List ℕ → Reading → Answer Sheet
+saidRead s (read.Good n) = given (sheetIn s n)
+saidRead s (read.Refused k) = refused k
+
+-- entry k where it stands; an entry of zeros, which is of no kind, where the bytes end before it does
+abbrev pub noEntry : Entry
+noEntry = record { cell = 0; kind = 0; day = 0 }
+
+abbrev pub entryAt : List ℕ → ℕ → Entry
+entryAt s k = cond (leb (6 * k + 6) (length s)) (entryOf (drop (6 * k) s)) noEntry

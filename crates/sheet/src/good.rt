@@ -1,0 +1,56 @@
+// The clauses of "A sheet is good if", of its trailer and of its entries.
+ghost use mathlib.Core.Path.{_≡_};
+ghost use Prim.Native.Nat.{_%_, _*_, _≤_};
+ghost use lib.ListN.{length};
+ghost use Rattle.sheet.specs.Layout.{entriesOf};
+ghost use Rattle.sheet.specs.Parts.{goodTrailer, goodEntry, goodEntries};
+
+use crate::bytes;
+use crate::Entry;
+use crate::Trailer;
+
+// What a turn number leaves when divided by desks; by no desks it leaves itself.
+fn left_by(turn: u32, desks: u8) -> u32
+    ensures { λ r. ⌜ r ≡ turn % desks ⌝ }
+{
+    if desks == 0 {
+        return turn;
+    }
+    turn % (desks as u32)
+}
+
+// A trailer with `back` bytes before it. Every test is made, so that the code is one straight line.
+pub fn trailer(t: Trailer, back: usize) -> bool
+    ensures { λ r. ⌜ r ≡ goodTrailer t back ⌝ }
+{
+    ((t.distance == 6 * (t.entries as u16)) & (t.distance as usize == back))
+        & (((1 <= t.desks) & (t.desks <= 16)) & ((1 <= t.cells) & (t.cells <= 64)))
+        & (t.sender < t.desks)
+        & ((t.zero6 == 0) & (t.zero7 == 0))
+        & ((t.turn <= 4294967294) & (left_by(t.turn, t.desks) == (t.sender as u32)))
+}
+
+// An entry after those of the cells below `least`.
+pub fn entry(e: Entry, least: u16, cells: u8) -> bool
+    ensures { λ r. ⌜ r ≡ goodEntry cells least e ⌝ }
+{
+    (least <= (e.cell as u16)) & (e.cell < cells) & ((e.kind == 1) & (e.day == 0) | (e.kind == 2))
+}
+
+// The first n entries.
+pub fn entries(s: &[u8], n: u8, cells: u8) -> bool
+    requires { ⌜ 6 * n ≤ length (now s) ⌝ }
+    ensures { λ r. ⌜ r ≡ goodEntries cells (entriesOf n (now (s .entry))) ⌝ }
+{
+    let count = n as usize;
+    let mut ok = true;
+    let mut least: u16 = 0;
+    let mut i: usize = 0;
+    while i < count {
+        let e = bytes::entry_from(s, 6 * i);
+        ok = ok & entry(e, least, cells);
+        least = (e.cell as u16) + 1;
+        i += 1;
+    }
+    ok
+}
