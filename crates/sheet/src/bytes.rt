@@ -8,7 +8,7 @@ use crate::Entry;
 use crate::Trailer;
 
 // The entry that starts at `at`.
-pub fn entry_from(s: &[u8], at: usize) -> Entry
+pub(crate) fn entry_from(s: &[u8], at: usize) -> Entry
     requires { ⌜ at + 6 ≤ length (now s) ⌝ }
     ensures { λ r. ⌜ r ≡ entryOf (drop at (now (s .entry))) ⌝ }
 {
@@ -20,7 +20,7 @@ pub fn entry_from(s: &[u8], at: usize) -> Entry
 }
 
 // The trailer that starts at `at`.
-pub fn trailer_at(s: &[u8], at: usize) -> Trailer
+pub(crate) fn trailer_at(s: &[u8], at: usize) -> Trailer
     requires { ⌜ at + 12 ≤ length (now s) ⌝ }
     ensures { λ r. ⌜ r ≡ trailerOf (drop at (now (s .entry))) ⌝ }
 {

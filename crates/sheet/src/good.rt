@@ -20,7 +20,7 @@ fn left_by(turn: u32, desks: u8) -> u32
 }
 
 // A trailer with `back` bytes before it. Every test is made, so that the code is one straight line.
-pub fn trailer(t: Trailer, back: usize) -> bool
+pub fn good_trailer(t: Trailer, back: usize) -> bool
     ensures { λ r. ⌜ r ≡ goodTrailer t back ⌝ }
 {
     ((t.distance == 6 * (t.entries as u16)) & (t.distance as usize == back))
@@ -31,14 +31,14 @@ pub fn trailer(t: Trailer, back: usize) -> bool
 }
 
 // An entry after those of the cells below `least`.
-pub fn entry(e: Entry, least: u16, cells: u8) -> bool
+pub fn good_entry(e: Entry, least: u16, cells: u8) -> bool
     ensures { λ r. ⌜ r ≡ goodEntry cells least e ⌝ }
 {
     (least <= (e.cell as u16)) & (e.cell < cells) & ((e.kind == 1) & (e.day == 0) | (e.kind == 2))
 }
 
 // The first n entries.
-pub fn entries(s: &[u8], n: u8, cells: u8) -> bool
+pub(crate) fn good_entries(s: &[u8], n: u8, cells: u8) -> bool
     requires { ⌜ 6 * n ≤ length (now s) ⌝ }
     ensures { λ r. ⌜ r ≡ goodEntries cells (entriesOf n (now (s .entry))) ⌝ }
 {
@@ -48,7 +48,7 @@ pub fn entries(s: &[u8], n: u8, cells: u8) -> bool
     let mut i: usize = 0;
     while i < count {
         let e = bytes::entry_from(s, 6 * i);
-        ok = ok & entry(e, least, cells);
+        ok = ok & good_entry(e, least, cells);
         least = (e.cell as u16) + 1;
         i += 1;
     }

@@ -10,6 +10,9 @@ ghost use Rattle.sheet.specs.Reading.{readOf, saidRead, entryAt};
 mod bytes;
 mod good;
 
+pub use good::good_entry;
+pub use good::good_trailer;
+
 use content::Content;
 
 // An entry as it stands in a sheet: the day is the number of its four bytes. Not every kind and day
@@ -76,10 +79,10 @@ pub fn read(s: &[u8]) -> Reading
     }
     let back = s.len() - 12;
     let t = bytes::trailer_at(s, back);
-    if !good::trailer(t, back) {
+    if !good_trailer(t, back) {
         return Reading::Refused(13);
     }
-    if !good::entries(s, t.entries, t.cells) {
+    if !good::good_entries(s, t.entries, t.cells) {
         return Reading::Refused(13);
     }
     Reading::Good(Numbers {

@@ -1,21 +1,29 @@
 -- Laws of `good` (specs/Good.antt) and of its parts (specs/Parts.antt).
+--   SoFar, begun, turned, ended              a loop over entries, wherever they stand; turned-in-bytes, ended-in-bytes
+--   good-is, too-short-is-bad                good is its two parts; fewer than 12 bytes are no sheet
+--   fair-trailer                             a good trailer's clauses as facts
+--   good-is-long, good-trailer-is-fair, good-entries-are, good-length, good-within    what a good sheet is known to be
+--   few-entries                              no more entries than cells
+--   sheet-bad, sheet-good                    the bytes of values are good exactly if the values are
 -- Assumes nothing.
 use mathlib.Core.Path.{_≡_, refl, sym, ap, _∙_}
 use mathlib.Core.List.{List, [], _∷_}
-use mathlib.Core.Bool.{Bool, true, false, _&&_, and-true, and-assoc}
+use mathlib.Core.Bool.{Bool, true, false, _&&_, and-true, and-assoc, false≢true}
 use Prim.Native.Nat.{ℕ, zero, suc, _+_, _*_, _-_, _%_, _<_, _≤_}
 use native.Mathlib.Omega.{arith}
 use native.Mathlib.Numerals.{add-one}
-use lib.ListN.{length, drop}
+use lib.ListN.{length, getD, drop, drop-of-length-le}
+use lib.Seq.{drop-cons}
 use lib.Dec.{eqb, leb, ltb}
-use borrow.Author.Tests.{le-leb, lt-leb, eqb-true, leb-true, ltb-true}
+use borrow.Author.Tests.{le-leb, lt-leb, eqb-true, leb-true, leb-false, ltb-true}
 use Rattle.sheet.specs.declared.Entry.{Entry}
 use Rattle.sheet.specs.declared.Trailer.{Trailer}
-use Rattle.sheet.specs.Layout.{entryOf, entriesOf, trailerIn}
+use Rattle.sheet.specs.Layout.{trailerBytes, sheetBytes, entryOf, entriesOf, trailerIn}
 use Rattle.sheet.specs.Good.{every, nextAbove, rising, below, kindAndDay, within, good}
+use Rattle.sheet.specs.Reading.{noEntry}
 use Rattle.sheet.specs.Parts.{goodTrailer, goodEntry, goodEntries}
 use Rattle.sheet.proofs.Laws.Bools.{and-split, in-any-order}
-use Rattle.sheet.proofs.Laws.Layout.{entries-from}
+use Rattle.sheet.proofs.Laws.Layout.{entry-of-entries, entries-count, sheet-length, DaysFit, TrailerFits, entries-back, trailer-back}
 
 -- ---- the entries, as a loop goes
 
@@ -42,38 +50,43 @@ from-is cells least (e ∷ es) =
     rw (from-is cells (e .cell + 1) es, ← (above-is (e .cell) es))
     (by-kind-of-test (leb least (e .cell)) (below cells e) (kindAndDay e) (nextAbove (e .cell) es) (rising es) (every (below cells) es) (every kindAndDay es))
 
--- ---- the loop over the entries: what is tested so far, and the rest, is the whole
+-- ---- a loop over entries: what is tested so far, and the rest, is the whole
 
-pub record SoFar (s : List ℕ) (n cells : ℕ) (ok : Bool) (least i : ℕ) : Type 0 where
-  pub within-n : i ≤ n
-  pub whole : goodEntries cells (entriesOf n s) ≡ ok && goodFrom cells least (entriesOf (n - i) (drop (6 * i) s))
+none-below : (es : List Entry) → notBelow 0 es ≡ true
+none-below [] = refl
+none-below (e ∷ es) = le-leb 0 (e .cell) (omega arith)
 
-module _ (s : List ℕ) (n cells : ℕ) where
-  none-below : (es : List Entry) → notBelow 0 es ≡ true
-  none-below [] = refl
-  none-below (e ∷ es) = le-leb 0 (e .cell) (omega arith)
+pub record SoFar (es : List Entry) (cells : ℕ) (ok : Bool) (least i : ℕ) : Type 0 where
+  pub within-es : i ≤ length es
+  pub whole : goodEntries cells es ≡ ok && goodFrom cells least (drop i es)
 
-  pub begun : SoFar s n cells true 0 0
-  begun =
-      let all : n - 0 ≡ n = omega arith in
-      record { within-n = omega arith; whole = rw (all, from-is cells 0 (entriesOf n s), none-below (entriesOf n s)) }
+module _ (es : List Entry) (cells : ℕ) where
+  pub begun : SoFar es cells true 0 0
+  begun = record { within-es = omega arith; whole = sym (from-is cells 0 es ∙ rw (none-below es)) }
 
-  module _ (ok : Bool) (least i : ℕ) (so : SoFar s n cells ok least i) where
-    pub turned : i < n → {e : Entry} {g : Bool} → e ≡ entryOf (drop (6 * i) s) → g ≡ goodEntry cells least e → SoFar s n cells (ok && g) (e .cell + 1) (i + 1)
-    turned h {e} {g} is test =
+  module _ (ok : Bool) (least i : ℕ) (so : SoFar es cells ok least i) where
+    pub turned : i < length es → (e : Entry) (g : Bool) → e ≡ getD es i noEntry → g ≡ goodEntry cells least e → SoFar es cells (ok && g) (e .cell + 1) (i + 1)
+    turned h e g is test =
         record {
-          within-n = omega arith;
+          within-es = omega arith;
           whole =
               so .whole
-              ∙ ap (λ (l : List Entry). ok && goodFrom cells least l) (entries-from s n i h)
-              ∙ ap (λ (x : Entry). ok && (goodEntry cells least x && goodFrom cells (x .cell + 1) (entriesOf (n - (i + 1)) (drop (6 * (i + 1)) s)))) (sym is)
-              ∙ rw (← test) (sym (and-assoc ok g _));
+              ∙ ap (λ (l : List Entry). ok && goodFrom cells least l) (drop-cons es i noEntry h)
+              ∙ ap (λ (x : Entry). ok && (goodEntry cells least x && goodFrom cells (x .cell + 1) (drop (suc i) es))) (sym is)
+              ∙ rw (← test, ← (add-one i)) (sym (and-assoc ok g _));
         }
 
-    pub ended : n ≤ i → ok ≡ goodEntries cells (entriesOf n s)
-    ended h =
-        let over : n - i ≡ 0 = omega arith in
-        sym (so .whole ∙ rw over (and-true ok))
+    pub ended : length es ≤ i → ok ≡ goodEntries cells es
+    ended h = sym (so .whole ∙ rw (drop-of-length-le es h) (and-true ok))
+
+-- over the first n entries of bytes
+module _ (s : List ℕ) (n cells : ℕ) (ok : Bool) (least i : ℕ) (so : SoFar (entriesOf n s) cells ok least i) where
+  pub turned-in-bytes : i < n → (e : Entry) → e ≡ entryOf (drop (6 * i) s) → (g : Bool) → g ≡ goodEntry cells least e → SoFar (entriesOf n s) cells (ok && g) (e .cell + 1) (i + 1)
+  turned-in-bytes h e is g test =
+      turned (entriesOf n s) cells ok least i so (omega (arith, entries-count n s)) e g (is ∙ sym (entry-of-entries n i s noEntry h)) test
+
+  pub ended-in-bytes : n ≤ i → ok ≡ goodEntries cells (entriesOf n s)
+  ended-in-bytes h = ended (entriesOf n s) cells ok least i so (omega (arith, entries-count n s))
 
 -- ---- good is its two parts
 
@@ -137,3 +150,68 @@ fair-trailer t back e =
       turn-most = leb-true _ _ (end .0);
       turn-leaves = eqb-true _ _ (end .1);
     }
+
+-- ---- good sheets
+
+module _ (s : List ℕ) (g : good s ≡ true) where
+  pub good-is-long : 12 ≤ length s
+  good-is-long = by-test (leb 12 (length s)) refl
+    where
+      by-test : (long : Bool) → leb 12 (length s) ≡ long → 12 ≤ length s
+      by-test true p = leb-true 12 (length s) p
+      by-test false p = absurd (false≢true (sym (too-short-is-bad s (leb-false 12 (length s) p)) ∙ g))
+
+  parts : (goodTrailer (trailerIn s) (length s - 12) ≡ true) × (goodEntries (trailerIn s .cells) (entriesOf (trailerIn s .entries) s) ≡ true)
+  parts = and-split _ _ (sym (good-is s good-is-long) ∙ g)
+
+  pub good-trailer-is-fair : FairTrailer (trailerIn s) (length s - 12)
+  good-trailer-is-fair = fair-trailer (trailerIn s) (length s - 12) (parts .0)
+
+  pub good-entries-are : goodEntries (trailerIn s .cells) (entriesOf (trailerIn s .entries) s) ≡ true
+  good-entries-are = parts .1
+
+  -- its length is that of its entries and its trailer
+  pub good-length : length s ≡ 6 * trailerIn s .entries + 12
+  good-length = let f = good-trailer-is-fair in let l = good-is-long in omega arith
+
+-- entries that rise strictly and are below `cells` are no more than `cells`
+from-few : (cells least : ℕ) (es : List Entry) → goodFrom cells least es ≡ true → length es ≤ cells - least
+from-few cells least [] g = omega arith
+from-few cells least (e ∷ es) g =
+    let one = and-split (goodEntry cells least e) (goodFrom cells (e .cell + 1) es) g in
+    let here = and-split (leb least (e .cell) && below cells e) (kindAndDay e) (one .0) in
+    let place = and-split (leb least (e .cell)) (below cells e) (here .0) in
+    let low : least ≤ e .cell = leb-true least (e .cell) (place .0) in
+    let high : e .cell < cells = ltb-true (e .cell) cells (place .1) in
+    omega (arith, from-few cells (e .cell + 1) es (one .1))
+
+pub few-entries : (cells : ℕ) (es : List Entry) → goodEntries cells es ≡ true → length es ≤ cells
+few-entries cells es g =
+    omega (arith, from-few cells 0 es (from-is cells 0 es ∙ rw (none-below es) g))
+
+-- 01's table: a sheet has from 12 bytes to 396
+pub good-within : (s : List ℕ) → good s ≡ true → (12 ≤ length s) × (length s ≤ 396)
+good-within s g =
+    let f = good-trailer-is-fair s g in
+    let few = few-entries (trailerIn s .cells) (entriesOf (trailerIn s .entries) s) (good-entries-are s g) in
+    omega (arith, good-length s g, entries-count (trailerIn s .entries) s)
+
+-- ---- the bytes of entries and a trailer are good exactly if these are
+
+module _ (es : List Entry) (t : Trailer) (tf : TrailerFits t) where
+  back-is : length (sheetBytes es t) - 12 ≡ 6 * length es
+  back-is = omega (arith, sheet-length es t)
+
+  by-values : good (sheetBytes es t) ≡ goodTrailer t (6 * length es) && goodEntries (t .cells) (entriesOf (t .entries) (sheetBytes es t))
+  by-values =
+      good-is (sheetBytes es t) (omega (arith, sheet-length es t))
+      ∙ ap (λ (x : Trailer). goodTrailer x (length (sheetBytes es t) - 12) && goodEntries (x .cells) (entriesOf (x .entries) (sheetBytes es t))) (trailer-back es t tf)
+      ∙ rw back-is
+
+  pub sheet-bad : goodTrailer t (6 * length es) ≡ false → good (sheetBytes es t) ≡ false
+  sheet-bad g = by-values ∙ rw g
+
+  pub sheet-good : DaysFit es → t .entries ≡ length es → goodTrailer t (6 * length es) ≡ true → good (sheetBytes es t) ≡ goodEntries (t .cells) es
+  sheet-good days count g =
+      let held : entriesOf (t .entries) (sheetBytes es t) ≡ es = ap (λ (k : ℕ). entriesOf k (sheetBytes es t)) count ∙ entries-back days (trailerBytes t) in
+      by-values ∙ rw (g, held)

@@ -1,5 +1,5 @@
 -- Laws of the layout (specs/Layout.antt).
---   entries-from, entries-count        the entries that bytes begin with, one by one
+--   entries-count, entry-of-entries    the entries that bytes begin with, one by one
 --   entries-length, sheet-length       how long entries and a sheet are
 --   entries-back, trailer-back         what was written as bytes is what the bytes hold
 --   sheet-again                        bytes that hold as many entries as they say are the sheet of what they hold
@@ -30,15 +30,6 @@ use Rattle.sheet.specs.Layout.{at1, entryBytes, entriesBytes, trailerByt
 
 -- ---- entries, one by one
 
--- the entries from i on are entry i and those from i + 1 on
-pub entries-from : (s : List ℕ) (n i : ℕ) → i < n
-    → entriesOf (n - i) (drop (6 * i) s) ≡ entryOf (drop (6 * i) s) ∷ entriesOf (n - (i + 1)) (drop (6 * (i + 1)) s)
-entries-from s n i h =
-    let one : n - i ≡ suc (n - (i + 1)) = omega arith in
-    let on : 6 * i + 6 ≡ 6 * (i + 1) = omega arith in
-    ap (λ (k : ℕ). entriesOf k (drop (6 * i) s)) one
-    ∙ ap (λ (l : List ℕ). entryOf (drop (6 * i) s) ∷ entriesOf (n - (i + 1)) l) (drop-drop 6 (6 * i) s ∙ ap (λ (k : ℕ). drop k s) on)
-
 pub entries-count : (n : ℕ) (s : List ℕ) → length (entriesOf n s) ≡ n
 entries-count zero s = refl
 entries-count (suc n) s = ap suc (entries-count n (drop 6 s))
@@ -68,16 +59,16 @@ sheet-length es t = rw (length-append, entries-length)
 
 -- the numbers have room in their bytes: so they have in every value of the code
 pub data DaysFit : List Entry → Type 0 where
-  none : DaysFit []
-  more : {e : Entry} {es : List Entry} → e .day < 4294967296 → DaysFit es → DaysFit (e ∷ es)
+  no-days : DaysFit []
+  a-day : {e : Entry} {es : List Entry} → e .day < 4294967296 → DaysFit es → DaysFit (e ∷ es)
 
 pub record TrailerFits (t : Trailer) : Type 0 where
   pub distance : t .distance < 65536
   pub turn : t .turn < 4294967296
 
 pub entries-back : {es : List Entry} → DaysFit es → (rest : List ℕ) → entriesOf (length es) (entriesBytes es ++ rest) ≡ es
-entries-back none rest = refl
-entries-back (more {e = e} h f) rest = rw (num-bytes 4 (e .day) h, entries-back f rest)
+entries-back no-days rest = refl
+entries-back (a-day {e = e} h f) rest = rw (num-bytes 4 (e .day) h, entries-back f rest)
 
 pub trailer-back : (es : List Entry) (t : Trailer) → TrailerFits t → trailerIn (sheetBytes es t) ≡ t
 trailer-back es t h =

@@ -21,7 +21,8 @@ use Rattle.sheet.specs.Layout.{entryOf, entriesOf, trailerIn, numbersOf}
 use Rattle.sheet.specs.Good.{good}
 use Rattle.sheet.specs.Parts.{goodTrailer, goodEntries}
 use Rattle.sheet.specs.Reading.{Sheet, sheetIn, readOf, saidRead, noEntry, entryAt}
-use Rattle.sheet.proofs.Laws.Good.{good-is, too-short-is-bad, fair-trailer}
+use Rattle.sheet.proofs.Laws.Layout.{entry-of-entries}
+use Rattle.sheet.proofs.Laws.Good.{good-is, too-short-is-bad, fair-trailer, good-length}
 
 -- ---- by good alone
 
@@ -62,3 +63,23 @@ module _ (s : List ℕ) where
           ap (λ (x : Trailer). given (sheetIn s (numbersOf x))) is ∙ sym (good-read s (by-entries ∙ sym tests ∙ not-false b off))
 
 pub ruleset readings = (read-short, read-bad-trailer, read-room, read-bad-entries, read-good)
+
+-- ---- the answer
+
+abbrev again : Answer Sheet → Reading
+again (refused k) = reading.Refused k
+again (given sheet) = reading.Good (sheet .numbers)
+
+found : (s : List ℕ) (a : Reading) → again (saidRead s a) ≡ a
+found s (reading.Good n) = refl
+found s (reading.Refused k) = refl
+
+pub said-read-tells-apart : (s : List ℕ) {a b : Reading} → saidRead s a ≡ saidRead s b → a ≡ b
+said-read-tells-apart s = apart (saidRead s) again (found s)
+
+-- ---- entries where they stand
+
+pub entries-in-place : (s : List ℕ) → good s ≡ true → (k : ℕ) → k < trailerIn s .entries → entryAt s k ≡ getD (entriesOf (trailerIn s .entries) s) k noEntry
+entries-in-place s g k h =
+    rw (le-leb (6 * k + 6) (length s) (omega (arith, good-length s g)))
+    (sym (entry-of-entries (trailerIn s .entries) k s noEntry h))

@@ -7,8 +7,8 @@ use Rattle.sheet.proofs.read.Tie as tie
 use Rattle.sheet.proofs.read.Reads as reads
 use Rattle.sheet.proofs.read.Lts as lts
 use Rattle.sheet.proofs.bytes.trailer_at.Reads as trailer-at-reads
-use Rattle.sheet.proofs.good.entries.Reads as entries-reads
-use Rattle.sheet.proofs.good.trailer.Reads as trailer-reads
+use Rattle.sheet.proofs.good.good_entries.Reads as good-entries-reads
+use Rattle.sheet.proofs.good.good_trailer.Reads as good-trailer-reads
 
 -- src/lib.rt:75:9
 returns : tie.Need-returns
@@ -23,16 +23,16 @@ trailer-at-requires : tie.Need-trailer-at-requires
 trailer-at-requires c κs = search needs
 
 -- src/lib.rt:79:9
-trailer-requires : tie.Need-trailer-requires
-trailer-requires c κs = search needs
+good-trailer-requires : tie.Need-good-trailer-requires
+good-trailer-requires c κs = search needs
 
 -- src/lib.rt:80:9
 returns-2 : tie.Need-returns-2
 returns-2 c = search (readings, needs)
 
 -- src/lib.rt:82:9
-entries-requires : tie.Need-entries-requires
-entries-requires c κs = search (readings, needs)
+good-entries-requires : tie.Need-good-entries-requires
+good-entries-requires c κs = search (readings, needs)
 
 -- src/lib.rt:83:9
 returns-3 : tie.Need-returns-3
@@ -49,8 +49,8 @@ read-spec =
     returns
     sub-back
     trailer-at-requires
-    trailer-requires
+    good-trailer-requires
     returns-2
-    entries-requires
+    good-entries-requires
     returns-3
     returns-4)

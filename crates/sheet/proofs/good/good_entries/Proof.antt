@@ -1,17 +1,18 @@
--- `good::entries` meets its contract: what is tested so far and the rest is the whole (`SoFar`).
+-- `good::good_entries` meets its contract: what is tested so far and the rest is the whole (`SoFar`).
 -- Assumes nothing.
 use borrow.Author.Needs.{needs}
-use Prim.Native.Nat.{_-_}
-use Rattle.sheet.proofs.Laws.Good.{SoFar, begun, turned, ended}
-use Rattle.sheet.proofs.good.entries.Statement.{statement}
-use Rattle.sheet.proofs.good.entries.Tie as tie
-use Rattle.sheet.proofs.good.entries.Reads as reads
-use Rattle.sheet.proofs.good.entries.Lts as lts
+use Prim.Native.Nat.{_-_, _≤_}
+use Rattle.sheet.specs.Layout.{entriesOf}
+use Rattle.sheet.proofs.Laws.Good.{SoFar, begun, turned-in-bytes, ended-in-bytes}
+use Rattle.sheet.proofs.good.good_entries.Statement.{statement}
+use Rattle.sheet.proofs.good.good_entries.Tie as tie
+use Rattle.sheet.proofs.good.good_entries.Reads as reads
+use Rattle.sheet.proofs.good.good_entries.Lts as lts
 use Rattle.sheet.proofs.bytes.entry_from.Reads as entry-from-reads
-use Rattle.sheet.proofs.good.entry.Reads as entry-reads
+use Rattle.sheet.proofs.good.good_entry.Reads as good-entry-reads
 
 abbrev Inv-loop : tie.InvT-loop
-Inv-loop s n cells count ok₀ least₀ i₀ ok least i = SoFar s n cells ok least i
+Inv-loop s n cells count ok₀ least₀ i₀ ok least i = (i ≤ n) × SoFar (entriesOf n s) cells ok least i
 
 abbrev μ-loop : tie.MeasureT-loop
 μ-loop s n cells count ok₀ least₀ i₀ ok least i = n - i
@@ -21,13 +22,13 @@ mul-entry-from : tie.Need-mul-entry-from Inv-loop μ-loop
 mul-entry-from c = search needs
 
 loop-holds : tie.Need-loop-holds Inv-loop μ-loop
-loop-holds c = begun _ _ _
+loop-holds c = (search needs, begun _ _)
 
 entry-from-requires : tie.Need-entry-from-requires Inv-loop μ-loop
 entry-from-requires c κs = search needs
 
-entry-requires : tie.Need-entry-requires Inv-loop μ-loop
-entry-requires c κs = search needs
+good-entry-requires : tie.Need-good-entry-requires Inv-loop μ-loop
+good-entry-requires c κs = search needs
 
 cast-least : tie.Need-cast-least Inv-loop μ-loop
 cast-least c = search needs
@@ -42,13 +43,13 @@ loop-less : tie.Need-loop-less Inv-loop μ-loop
 loop-less c = search needs
 
 loop-again : tie.Need-loop-again Inv-loop μ-loop
-loop-again c = search (turned, needs)
+loop-again c = search (turned-in-bytes, needs)
 
 returns : tie.Need-returns Inv-loop μ-loop
-returns c = search (ended, needs)
+returns c = search (ended-in-bytes, needs)
 
-pub entries-spec : {M : Type 1} → statement M
-entries-spec =
+pub good-entries-spec : {M : Type 1} → statement M
+good-entries-spec =
     tie.close
     (tie.spec
     Inv-loop
@@ -56,7 +57,7 @@ entries-spec =
     loop-holds
     mul-entry-from
     entry-from-requires
-    entry-requires
+    good-entry-requires
     cast-least
     add-least
     add-i

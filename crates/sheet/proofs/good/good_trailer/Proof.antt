@@ -1,10 +1,10 @@
--- `good::trailer` meets its contract: its tests are the definition's, one by one.
+-- `good::good_trailer` meets its contract: its tests are the definition's, one by one.
 -- Assumes nothing.
 use borrow.Author.Needs.{needs}
-use Rattle.sheet.proofs.good.trailer.Statement.{statement}
-use Rattle.sheet.proofs.good.trailer.Tie as tie
-use Rattle.sheet.proofs.good.trailer.Reads as reads
-use Rattle.sheet.proofs.good.trailer.Lts as lts
+use Rattle.sheet.proofs.good.good_trailer.Statement.{statement}
+use Rattle.sheet.proofs.good.good_trailer.Tie as tie
+use Rattle.sheet.proofs.good.good_trailer.Reads as reads
+use Rattle.sheet.proofs.good.good_trailer.Lts as lts
 use Rattle.sheet.proofs.good.left_by.Reads as left-by-reads
 
 -- src/good.rt:26:26
@@ -31,7 +31,7 @@ cast-result-3 c = search needs
 returns : tie.Need-returns
 returns c = rw (c .before .left-by .ensures)
 
-pub trailer-spec : {M : Type 1} → statement M
-trailer-spec =
+pub good-trailer-spec : {M : Type 1} → statement M
+good-trailer-spec =
     tie.close
     (tie.spec cast-result mul-result cast-result-2 left-by-requires cast-result-3 returns)
