@@ -10,10 +10,9 @@ ghost use Rattle.sheet.specs.Reading.{readOf, saidRead, entryAt};
 mod bytes;
 mod good;
 
+use content::Content;
 pub use good::good_entry;
 pub use good::good_trailer;
-
-use content::Content;
 
 // An entry as it stands in a sheet: the day is the number of its four bytes. Not every kind and day
 // is a good entry's.

@@ -20,10 +20,11 @@ use Rattle.sheet.specs.declared.Entry.{Entry}
 use Rattle.sheet.specs.declared.Trailer.{Trailer}
 use Rattle.sheet.specs.Layout.{trailerBytes, sheetBytes, entryOf, entriesOf, trailerIn}
 use Rattle.sheet.specs.Good.{every, nextAbove, rising, below, kindAndDay, within, good}
+use Rattle.sheet.specs.Values.{DaysFit}
 use Rattle.sheet.specs.Reading.{noEntry}
 use Rattle.sheet.specs.Parts.{goodTrailer, goodEntry, goodEntries}
 use Rattle.sheet.proofs.Laws.Bools.{and-split, in-any-order}
-use Rattle.sheet.proofs.Laws.Layout.{entry-of-entries, entries-count, sheet-length, DaysFit, TrailerFits, entries-back, trailer-back}
+use Rattle.sheet.proofs.Laws.Layout.{entry-of-entries, entries-count, sheet-length, TrailerFits, entries-back, trailer-back}
 
 -- ---- the entries, as a loop goes
 

@@ -26,6 +26,7 @@ use Rattle.content.specs.Content.{kindOf, dayOf, contentOf}
 use Rattle.content.proofs.Laws.Content.{content-again}
 use Rattle.sheet.specs.declared.Entry.{Entry}
 use Rattle.sheet.specs.declared.Trailer.{Trailer}
+use Rattle.sheet.specs.Values.{AreBytes, DaysFit, no-days, a-day}
 use Rattle.sheet.specs.Layout.{at1, entryBytes, entriesBytes, trailerBytes, sheetBytes, entryOf, entriesOf, trailerOf, trailerIn, entryFor, contentIn}
 
 -- ---- entries, one by one
@@ -57,11 +58,7 @@ sheet-length es t = rw (length-append, entries-length)
 
 -- ---- from values to bytes and back
 
--- the numbers have room in their bytes: so they have in every value of the code
-pub data DaysFit : List Entry → Type 0 where
-  no-days : DaysFit []
-  a-day : {e : Entry} {es : List Entry} → e .day < 4294967296 → DaysFit es → DaysFit (e ∷ es)
-
+-- a trailer's numbers have room in their bytes
 pub record TrailerFits (t : Trailer) : Type 0 where
   pub distance : t .distance < 65536
   pub turn : t .turn < 4294967296
@@ -77,10 +74,6 @@ trailer-back es t h =
     ∙ rw (num-bytes 2 (t .distance) (h .distance), num-bytes 4 (t .turn) (h .turn))
 
 -- ---- from bytes to values and back
-
--- every element of a lent slice is a byte
-abbrev pub AreBytes : List ℕ → Type 0
-AreBytes s = (i : ℕ) → getD s i 0 < 256
 
 -- k bytes of l from index i on
 abbrev row : List ℕ → ℕ → ℕ → List ℕ

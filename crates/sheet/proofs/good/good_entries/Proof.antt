@@ -17,7 +17,6 @@ Inv-loop s n cells count ok₀ least₀ i₀ ok least i = (i ≤ n) × SoFar (en
 abbrev μ-loop : tie.MeasureT-loop
 μ-loop s n cells count ok₀ least₀ i₀ ok least i = n - i
 
-
 mul-entry-from : tie.Need-mul-entry-from Inv-loop μ-loop
 mul-entry-from c = search needs
 

@@ -1,0 +1,125 @@
+-- Laws of `writtenOf`, `bufferOf` and `Writes` (specs/Writing.antt).
+--   writings                       a set for `search`: what `write` knows at each of its returns, and what it then leaves and answers
+--   said-written-tells-apart       two answers that say the same are the same
+-- Assumes nothing.
+use mathlib.Core.Path.{_≡_, refl, sym, ap, _∙_}
+use mathlib.Core.List.{List, [], _∷_, _++_}
+use mathlib.Core.Bool.{Bool, true, false, not}
+use Prim.Native.Nat.{ℕ, zero, suc, _+_, _*_, _-_, _<_, _≤_}
+use native.Mathlib.Omega.{arith}
+use lib.ListN.{length, take, drop, length-append, length-take}
+use lib.Seq.{length-take-le}
+use borrow.Author.Tests.{lt-ltb, le-ltb, not-true, not-false}
+use Rattle.content.specs.Answer.{Answer, refused, given}
+use Rattle.content.proofs.Laws.Answer.{apart}
+use Rattle.sheet.specs.declared.Entry.{Entry}
+use Rattle.sheet.specs.declared.Numbers.{Numbers}
+use Rattle.sheet.specs.declared.Trailer.{Trailer}
+use Rattle.sheet.specs.Layout.{entriesBytes, trailerBytes, sheetBytes, trailerFor, sheetFor}
+use Rattle.sheet.specs.Good.{good}
+use Rattle.sheet.specs.Parts.{goodTrailer, goodEntries}
+use Rattle.sheet.specs.Values.{NumbersFit, DaysFit}
+use Rattle.sheet.proofs.Laws.Layout.{TrailerFits, entries-length, sheet-length}
+use Rattle.sheet.proofs.Laws.Good.{fair-trailer, sheet-bad, sheet-good}
+use Rattle.writer.specs.declared.Written.{Written}
+use Rattle.writer.specs.declared.Written.the-variants as written
+use Rattle.writer.specs.Laying.{laidOver}
+use Rattle.writer.specs.Parts.{Tested}
+use Rattle.writer.specs.Writing.{writtenOf, bufferOf, saidWritten, Writes}
+use Rattle.writer.proofs.Laws.Laying.{laid-next}
+
+-- ---- by the sheet alone
+
+module _ (n : Numbers) (es : List Entry) (b : List ℕ) where
+  pub not-good : good (sheetFor n es) ≡ false → Writes n es b (written.Refused 13) b
+  unfolding writtenOf bufferOf
+  not-good g = record { answers = rw g; buffer = rw g }
+
+  pub too-short : good (sheetFor n es) ≡ true → length b < length (sheetFor n es) → Writes n es b (written.Refused 11) b
+  unfolding writtenOf bufferOf
+  too-short g h = record { answers = rw (g, lt-ltb _ _ h); buffer = rw (g, lt-ltb _ _ h) }
+
+  pub written-whole : good (sheetFor n es) ≡ true → length (sheetFor n es) ≤ length b → Writes n es b (written.Sheet (length (sheetFor n es))) (sheetFor n es ++ drop (length (sheetFor n es)) b)
+  unfolding writtenOf bufferOf
+  written-whole g h = record { answers = rw (g, le-ltb _ _ h); buffer = rw (g, le-ltb _ _ h) }
+
+-- ---- as the code goes
+
+pub trailer-fits : (n : Numbers) → NumbersFit n → TrailerFits (trailerFor n)
+trailer-fits n f = record { distance = omega (arith, f .entries); turn = f .turn }
+
+not-true-is-false : (t : Bool) → (t ≡ true → ⊥) → t ≡ false
+not-true-is-false true h = absurd (h refl)
+not-true-is-false false h = refl
+
+module _ (n : Numbers) (es : List Entry) (b : List ℕ) (fit : NumbersFit n) (sixty-four : length es ≡ 64) where
+  abbrev part : List Entry
+  part = take (n .entries) es
+
+  pub write-too-many : 64 < n .entries → Writes n es b (written.Refused 13) b
+  unfolding sheetFor
+  write-too-many h =
+      not-good n es b (sheet-bad part (trailerFor n) (trailer-fits n fit) (not-true-is-false _ (λ g.
+      let f = fair-trailer (trailerFor n) (6 * length part) g in
+      omega (arith, length-take (n .entries) es))))
+
+  module _ (few : n .entries ≤ 64) where
+    count : length part ≡ n .entries
+    count = length-take-le (n .entries) es (omega arith)
+
+    size : length (sheetFor n es) ≡ 6 * n .entries + 12
+    unfolding sheetFor
+    size = sheet-length part (trailerFor n) ∙ ap (λ (k : ℕ). 6 * k + 12) count
+
+    module _ (t : Trailer) (is : t ≡ trailerFor n) (g : Bool) (test : g ≡ goodTrailer t (6 * n .entries)) where
+      same-test : goodTrailer (trailerFor n) (6 * length part) ≡ g
+      same-test = ap (λ (k : ℕ). goodTrailer (trailerFor n) (6 * k)) count ∙ ap (λ (x : Trailer). goodTrailer x (6 * n .entries)) (sym is) ∙ sym test
+
+      pub write-bad-trailer : not g ≡ true → Writes n es b (written.Refused 13) b
+      unfolding sheetFor
+      write-bad-trailer off = not-good n es b (sheet-bad part (trailerFor n) (trailer-fits n fit) (same-test ∙ not-true g off))
+
+      module _ (on : not g ≡ false) (ok : Bool) (tested : Tested (n .cells) part ok) where
+        good-is-ok : good (sheetFor n es) ≡ ok
+        unfolding sheetFor
+        good-is-ok =
+            sheet-good part (trailerFor n) (trailer-fits n fit) (tested .days) (sym count) (same-test ∙ not-false g on)
+            ∙ sym (tested .found)
+
+        pub write-bad-entries : not ok ≡ true → Writes n es b (written.Refused 13) b
+        write-bad-entries off = not-good n es b (good-is-ok ∙ not-true ok off)
+
+        module _ (fine : not ok ≡ false) where
+          pub write-too-short : length b < 6 * n .entries + 12 → Writes n es b (written.Refused 11) b
+          write-too-short h = too-short n es b (good-is-ok ∙ not-false ok fine) (omega (arith, size))
+
+          pub write-whole : 6 * n .entries + 12 ≤ length b
+              → (b₁ : List ℕ) → b₁ ≡ entriesBytes part ++ drop (6 * n .entries) b
+              → (b₂ : List ℕ) → b₂ ≡ laidOver b₁ (6 * n .entries) (trailerBytes t)
+              → Writes n es b (written.Sheet (6 * n .entries + 12)) b₂
+          unfolding sheetFor
+          write-whole h b₁ e₁ b₂ e₂ =
+              let front : List ℕ = entriesBytes part in
+              let at : length front ≡ 6 * n .entries = entries-length part ∙ ap (λ (k : ℕ). 6 * k) count in
+              let all : b₂ ≡ sheetFor n es ++ drop (length (sheetFor n es)) b =
+              e₂ ∙ ap (λ (l : List ℕ). laidOver l (6 * n .entries) (trailerBytes t)) e₁
+              ∙ ap (λ (k : ℕ). laidOver (front ++ drop k b) k (trailerBytes t)) (sym at)
+              ∙ ap (λ (x : Trailer). laidOver (front ++ drop (length front) b) (length front) (trailerBytes x)) is
+              ∙ laid-next front (trailerBytes (trailerFor n)) b (omega arith)
+              in
+              rw (← size, all) (written-whole n es b (good-is-ok ∙ not-false ok fine) (omega (arith, size)))
+
+pub ruleset writings = (write-too-many, write-bad-trailer, write-bad-entries, write-too-short, write-whole)
+
+-- ---- the answer
+
+abbrev again : Answer ℕ → Written
+again (refused k) = written.Refused k
+again (given n) = written.Sheet n
+
+found : (a : Written) → again (saidWritten a) ≡ a
+found (written.Sheet n) = refl
+found (written.Refused k) = refl
+
+pub said-written-tells-apart : {a b : Written} → saidWritten a ≡ saidWritten b → a ≡ b
+said-written-tells-apart = apart saidWritten again found

@@ -1,0 +1,74 @@
+-- `write` meets its contract: its tests are those of `good` for the sheet that it would write, and each return is one of the laws `writings`.
+-- Assumes nothing.
+use Rattle.writer.proofs.Laws.Writing.{writings}
+use borrow.Author.Needs.{needs}
+use Rattle.writer.proofs.write.Statement.{statement}
+use Rattle.writer.proofs.write.Tie as tie
+use Rattle.writer.proofs.write.Reads as reads
+use Rattle.writer.proofs.write.Lts as lts
+use Rattle.sheet.proofs.good_trailer.Reads as good-trailer-reads
+use Rattle.writer.proofs.given.good_entries.Reads as good-entries-reads
+use Rattle.writer.proofs.given.put_entries.Reads as put-entries-reads
+use Rattle.writer.proofs.put_trailer.Reads as put-trailer-reads
+use Rattle.writer.proofs.trailer_for.Reads as trailer-for-reads
+
+cast-count : tie.Need-cast-count
+cast-count c = search needs
+
+returns : tie.Need-returns
+returns c = search (writings, needs)
+
+mul-back : tie.Need-mul-back
+mul-back c = search needs
+
+trailer-for-requires : tie.Need-trailer-for-requires
+trailer-for-requires c κs = search needs
+
+good-trailer-requires : tie.Need-good-trailer-requires
+good-trailer-requires c κs = search needs
+
+returns-2 : tie.Need-returns-2
+returns-2 c = search (writings, needs)
+
+good-entries-requires : tie.Need-good-entries-requires
+good-entries-requires c κs = search needs
+
+returns-3 : tie.Need-returns-3
+returns-3 c = search (writings, needs)
+
+add-len : tie.Need-add-len
+add-len c = search needs
+
+returns-4 : tie.Need-returns-4
+returns-4 c = search (writings, needs)
+
+put-entries-requires : tie.Need-put-entries-requires
+put-entries-requires c κs = search needs
+
+put-trailer-requires : tie.Need-put-trailer-requires
+put-trailer-requires c κs = search needs
+
+same-length : tie.Need-same-length
+same-length c = search needs
+
+returns-5 : tie.Need-returns-5
+returns-5 c = search (writings, needs)
+
+pub write-spec : {M : Type 1} → statement M
+write-spec =
+    tie.close
+    (tie.spec
+    cast-count
+    returns
+    mul-back
+    trailer-for-requires
+    good-trailer-requires
+    returns-2
+    good-entries-requires
+    returns-3
+    add-len
+    returns-4
+    put-entries-requires
+    put-trailer-requires
+    same-length
+    returns-5)

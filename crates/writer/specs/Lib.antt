@@ -1,0 +1,4 @@
+pub mod Laying
+pub mod Writing
+pub mod Parts
+pub mod RoundTrip

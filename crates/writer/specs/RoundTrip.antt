@@ -1,0 +1,28 @@
+-- Demand 2: "a written sheet reads back as the entries sent, and a good sheet's entries and trailer numbers write the same bytes again."
+-- Both as statements over the definitions of reading and writing; their proofs are in proofs/RoundTrip.antt.
+-- Assumes nothing.
+use mathlib.Core.Path.{_≡_}
+use mathlib.Core.List.{List, _++_}
+use Prim.Native.Nat.{ℕ, _≤_}
+use lib.ListN.{length, take, drop}
+use Rattle.content.specs.Answer.{given}
+use Rattle.sheet.specs.declared.Entry.{Entry}
+use Rattle.sheet.specs.declared.Numbers.{Numbers}
+use Rattle.sheet.specs.Reading.{Sheet, readOf}
+use Rattle.sheet.specs.Values.{AreBytes, DaysFit, NumbersFit}
+use Rattle.writer.specs.Writing.{writtenOf, bufferOf}
+
+-- "a written sheet reads back as the entries sent": whatever was written, the part of the buffer that the answer names reads as the
+-- numbers given and as many of the entries given as they say
+unfoldable pub WrittenReadsBack : Type 0
+WrittenReadsBack =
+    (n : Numbers) (es : List Entry) (buf : List ℕ) (len : ℕ) → NumbersFit n → DaysFit es → writtenOf n es buf ≡ given len
+    → readOf (take len (bufferOf n es buf)) ≡ given (record { numbers = n; entries = take (n .entries) es })
+
+-- "a good sheet's entries and trailer numbers write the same bytes again": into any buffer with room, from an array that begins with
+-- the entries read
+unfoldable pub ReadWritesBack : Type 0
+ReadWritesBack =
+    (s : List ℕ) (sheet : Sheet) (more : List Entry) (buf : List ℕ) → AreBytes s → readOf s ≡ given sheet → length s ≤ length buf
+    → (writtenOf (sheet .numbers) (sheet .entries ++ more) buf ≡ given (length s))
+    × (bufferOf (sheet .numbers) (sheet .entries ++ more) buf ≡ s ++ drop (length s) buf)
