@@ -7,6 +7,7 @@
 // .entry)` is the list of a lent slice's elements at the call, `now (s .exit)` the same at the end.
 // A promise is proved for the compiled code's source; nobody has to test it to rely on it.
 ghost use mathlib.Core.Path.{_≡_};
+ghost use lib.IntN.{_-ℤ_};
 ghost use Rattle.content.specs.Answer.{given};
 ghost use Rattle.content.specs.Content.{kindOf, dayOf, contentOf};
 ghost use Rattle.content.specs.Standing.{standingOn, said};
@@ -34,7 +35,7 @@ impl Content {
         match self {
             Content::Blank => Standing::Unknown,
             Content::Open => Standing::Open,
-            Content::Day(day) => Standing::Left((day as i64) - (today as i64)),
+            Content::Day(day) => Standing::Left(days_left(day, today)),
         }
     }
 
@@ -72,4 +73,11 @@ impl Content {
         }
         Content::Blank
     }
+}
+
+// From one day to another, exact: both have 32 bits, and the difference has 64.
+fn days_left(day: i32, today: i32) -> i64
+    ensures { λ r. ⌜ r ≡ day -ℤ today ⌝ }
+{
+    (day as i64) - (today as i64)
 }

@@ -5,6 +5,7 @@
 // No function here refuses: each takes every value of its types.
 ghost use mathlib.Core.Path.{_≡_};
 ghost use mathlib.Core.List.{[], _∷_};
+ghost use lib.IntN.{natAbs};
 ghost use mir.Syntax.{w32};
 ghost use mir.Val.{toZ, ofZ};
 ghost use Rattle.numbers.specs.Numbers.{num, bytes};
@@ -66,5 +67,17 @@ pub fn pattern(z: i32) -> u32
     } else {
         let k = (-1 - z) as u32;
         4294967295 - k
+    }
+}
+
+// A signed number without its sign: what stands behind the minus where it is printed.
+pub fn magnitude(z: i64) -> u64
+    ensures { λ r. ⌜ r ≡ natAbs z ⌝ }
+{
+    if 0 <= z {
+        z as u64
+    } else {
+        let k = (-1 - z) as u64;
+        k + 1
     }
 }

@@ -54,11 +54,9 @@ impl Entry {
     pub fn of(cell: u8, c: Content) -> Entry
         ensures { λ r. ⌜ r ≡ entryFor cell c ⌝ }
     {
-        Entry {
-            cell,
-            kind: c.kind(),
-            day: numbers::pattern(c.day()),
-        }
+        let kind = c.kind();
+        let day = numbers::pattern(c.day());
+        Entry { cell, kind, day }
     }
 
     // The content of an entry.

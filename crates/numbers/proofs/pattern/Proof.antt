@@ -1,5 +1,5 @@
 -- `num::pattern` meets its contract: z is 0 or more, and its own pattern, or -(k + 1), and -1 less z is k. Assumes nothing.
-use mathlib.Core.Path.{_≡_, refl, ap, _∙_}
+use mathlib.Core.Path.{ap, sym, _∙_}
 use mathlib.Core.Bool.{true, false}
 use native.Mathlib.Omega.{arith}
 use lib.IntN.{pos}
@@ -13,11 +13,11 @@ use Rattle.numbers.proofs.pattern.Tie as tie
 use Rattle.numbers.proofs.pattern.Reads as reads
 use Rattle.numbers.proofs.pattern.Lts as lts
 
-up : (c : tie.Then1) → Plus (c .before .args .z)
-up c = plus _ (c .before .fits .z) (rw (toZ-ofZ (c .before .fits .z)) at (c .if1 .taken))
+up : (c : tie.Then1) → Plus w32 (c .before .args .z)
+up c = plus w32 tt _ (c .before .fits .z) (rw (toZ-ofZ (c .before .fits .z)) at (c .if1 .taken))
 
-down : (c : tie.Else1) → Minus (c .before .args .z)
-down c = minus _ (c .before .fits .z) (rw (toZ-ofZ (c .before .fits .z)) at (c .if1 .left))
+down : (c : tie.Else1) → Minus w32 (c .before .args .z)
+down c = minus w32 _ (c .before .fits .z) (rw (toZ-ofZ (c .before .fits .z)) at (c .if1 .left))
 
 cast-result : tie.Need-cast-result
 cast-result c = rw (toZ-ofZ (c .before .fits .z)) (up c .size)
@@ -35,7 +35,7 @@ returns : tie.Need-returns
 returns c = rw (toZ-ofZ (c .before .fits .z)) (up c .same)
 
 returns-2 : tie.Need-returns-2
-returns-2 c = rw (toZ-ofZ (c .before .fits .z), down c .diff, toZ-pos w32 (down c .small)) (down c .bits)
+returns-2 c = rw (toZ-ofZ (c .before .fits .z), down c .diff, toZ-pos w32 (down c .small)) (omega (arith, down c .small) ∙ ap (ofZ w32) (sym (down c .is)))
 
 pub pattern-spec : {M : Type 1} → statement M
 pattern-spec = tie.close (tie.spec cast-result sub-k cast-k sub-result returns returns-2)

@@ -5,10 +5,11 @@
 --   good-is-long, good-trailer-is-fair, good-entries-are, good-length, good-within    what a good sheet is known to be
 --   few-entries                              no more entries than cells
 --   sheet-bad, sheet-good                    the bytes of values are good exactly if the values are
+--   open-or-day, blank-is-never-sent, open-is-sent, day-is-sent    contents in entries
 -- Assumes nothing.
 use mathlib.Core.Path.{_≡_, refl, sym, ap, _∙_}
 use mathlib.Core.List.{List, [], _∷_}
-use mathlib.Core.Bool.{Bool, true, false, _&&_, and-true, and-assoc, false≢true}
+use mathlib.Core.Bool.{Bool, true, false, _&&_, _||_, and-true, and-assoc, false≢true}
 use Prim.Native.Nat.{ℕ, zero, suc, _+_, _*_, _-_, _%_, _<_, _≤_}
 use native.Mathlib.Omega.{arith}
 use native.Mathlib.Numerals.{add-one}
@@ -16,9 +17,14 @@ use lib.ListN.{length, getD, drop, drop-of-length-le}
 use lib.Seq.{drop-cons}
 use lib.Dec.{eqb, leb, ltb}
 use borrow.Author.Tests.{le-leb, lt-leb, eqb-true, leb-true, leb-false, ltb-true}
+use lib.IntN.{ℤ}
+use mir.Syntax.{w32}
+use mir.Val.{toZ}
+use Rattle.content.specs.declared.Content.the-variants.{Blank, Open, Day}
+use Rattle.content.specs.Content.{contentOf}
 use Rattle.sheet.specs.declared.Entry.{Entry}
 use Rattle.sheet.specs.declared.Trailer.{Trailer}
-use Rattle.sheet.specs.Layout.{trailerBytes, sheetBytes, entryOf, entriesOf, trailerIn}
+use Rattle.sheet.specs.Layout.{trailerBytes, sheetBytes, entryOf, entriesOf, trailerIn, entryFor, contentIn}
 use Rattle.sheet.specs.Good.{every, nextAbove, rising, below, kindAndDay, within, good}
 use Rattle.sheet.specs.Values.{DaysFit}
 use Rattle.sheet.specs.Reading.{noEntry}
@@ -216,3 +222,34 @@ module _ (es : List Entry) (t : Trailer) (tf : TrailerFits t) where
   sheet-good days count g =
       let held : entriesOf (t .entries) (sheetBytes es t) ≡ es = ap (λ (k : ℕ). entriesOf k (sheetBytes es t)) count ∙ entries-back days (trailerBytes t) in
       by-values ∙ rw (g, held)
+
+-- ---- contents in entries
+
+-- a good entry is open exactly with kind 1, and a day exactly with kind 2
+pub data OpenOrDay (e : Entry) : Type 0 where
+  is-open : e .kind ≡ 1 → contentIn e ≡ Open → OpenOrDay e
+  is-day : e .kind ≡ 2 → contentIn e ≡ Day (toZ w32 (e .day)) → OpenOrDay e
+
+pub open-or-day : (e : Entry) → kindAndDay e ≡ true → OpenOrDay e
+open-or-day e g = by-kind (eqb (e .kind) 2) refl
+  where
+    not-two : (a b : Bool) → a && b || false ≡ true → a ≡ true
+    not-two true b p = refl
+    not-two false b p = absurd (false≢true p)
+
+    by-kind : (t : Bool) → eqb (e .kind) 2 ≡ t → OpenOrDay e
+    by-kind true p = let k : e .kind ≡ 2 = eqb-true (e .kind) 2 p in is-day k (ap (λ (x : ℕ). contentOf x (toZ w32 (e .day))) k)
+    by-kind false p =
+        let k : e .kind ≡ 1 = eqb-true (e .kind) 1 (not-two (eqb (e .kind) 1) (eqb (e .day) 0) (rw p at g)) in
+        is-open k (ap (λ (x : ℕ). contentOf x (toZ w32 (e .day))) k)
+
+-- a blank has no good entry: "blank (never written)" is never sent
+pub blank-is-never-sent : (cell : ℕ) → kindAndDay (entryFor cell Blank) ≡ false
+blank-is-never-sent cell = refl
+
+-- open and every day have one
+pub open-is-sent : (cell : ℕ) → kindAndDay (entryFor cell Open) ≡ true
+open-is-sent cell = refl
+
+pub day-is-sent : (cell : ℕ) (d : ℤ) → kindAndDay (entryFor cell (Day d)) ≡ true
+day-is-sent cell d = refl

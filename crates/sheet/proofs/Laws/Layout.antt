@@ -4,6 +4,7 @@
 --   entries-back, trailer-back         what was written as bytes is what the bytes hold
 --   sheet-again                        bytes that hold as many entries as they say are the sheet of what they hold
 --   content-in-entry                   an entry gives back the content it was made of
+--   contents-apart                     two contents that are sent with the same bytes are the same
 --   open-meets-no-day                  the bytes of an open entry are those of no day's
 -- Assumes nothing.
 use mathlib.Core.Path.{_≡_, refl, sym, ap, _∙_}
@@ -17,7 +18,7 @@ use lib.IntN.{ℤ}
 use lib.Signed.{mag}
 use mir.Syntax.{w32}
 use mir.Val.{SFits, toZ, ofZ}
-use mir.Facts.{toZ-ofZ}
+use mir.Facts.{toZ-ofZ, fits-ofZ}
 use Rattle.numbers.specs.Numbers.{num, bytes}
 use Rattle.numbers.proofs.Laws.{none, more, num-bytes, bytes-num}
 use Rattle.content.specs.declared.Content.{Content}
@@ -124,6 +125,18 @@ sheet-again s n b long =
 
 pub content-in-entry : (cell : ℕ) (c : Content) → SFits w32 (dayOf c) → contentIn (entryFor cell c) ≡ c
 content-in-entry cell c h = rw (toZ-ofZ h) (content-again c)
+
+-- ---- "empty is not zero and not yesterday", on the line
+
+entry-back : (e : Entry) → e .day < 4294967296 → entryOf (entryBytes e) ≡ e
+entry-back e h = rw (num-bytes 4 (e .day) h)
+
+-- two contents that are sent with the same bytes are the same content
+pub contents-apart : (cell : ℕ) (c d : Content) → SFits w32 (dayOf c) → SFits w32 (dayOf d) → entryBytes (entryFor cell c) ≡ entryBytes (entryFor cell d) → c ≡ d
+contents-apart cell c d hc hd same =
+    sym (content-in-entry cell c hc)
+    ∙ ap contentIn (sym (entry-back (entryFor cell c) (fits-ofZ hc .fits)) ∙ ap entryOf same ∙ entry-back (entryFor cell d) (fits-ofZ hd .fits))
+    ∙ content-in-entry cell d hd
 
 -- "treating kind 1 as a day of zero" is the slip: no day, and so not day 0, has the bytes of open in its cell
 pub open-meets-no-day : (cell : ℕ) (d : ℤ) → entryBytes (entryFor cell Open) ≡ entryBytes (entryFor cell (Day d)) → ⊥

@@ -9,19 +9,15 @@ use Rattle.content.proofs.Content.day.Reads as day-reads
 use Rattle.content.proofs.Content.kind.Reads as kind-reads
 use Rattle.numbers.proofs.pattern.Reads as pattern-reads
 
--- src/lib.rt:57:19
 kind-requires : tie.Need-kind-requires
 kind-requires c κs = search needs
 
--- src/lib.rt:58:35
 day-requires : tie.Need-day-requires
 day-requires c κs = search needs
 
--- src/lib.rt:58:18
 pattern-requires : tie.Need-pattern-requires
 pattern-requires c κs = search needs
 
--- src/lib.rt:52:5
 returns : tie.Need-returns
 returns c = rw (c .pattern .ensures, toZ-ofZ {w = w32} {z = c .before .day .result} (record { sfits = c .before .day .ok }), c .before .day .ensures, c .before .before .kind .ensures)
 
