@@ -1,0 +1,82 @@
+-- Laws of a year's months, leap years and others alike (`lengthIn`, specs/Calendar.antt): one test of every month, which antt computes, and what
+-- follows from it at each.
+--   month                                of month m: the table's days before it, within which bounds they lie, and that it is short
+--   month-guessed, month-after-guess     so the month of day j is j / 32, or the next if that one begins by then
+-- Assumes nothing.
+use mathlib.Core.Path.{_≡_, refl, ap, sym, subst, _∙_}
+use mathlib.Core.Bool.{Bool, true, false, cond, _&&_}
+use mathlib.Core.Logic.{⊎-elim}
+use mathlib.Core.List.{List, [], _∷_}
+use Prim.Native.Nat.{ℕ, zero, suc, _+_, _*_, _/_, _≤_, _<_}
+use native.Mathlib.Nat.{eq-or-lt-of-le, not-suc-le-zero}
+use native.Mathlib.Numerals.{add-one}
+use native.Mathlib.Omega.{arith}
+use lib.Dec.{T, eqb, leb}
+use lib.ListN.{getD}
+use mir.Facts.{and-yes, eqb-yes, leb-yes}
+use Rattle.calendar.specs.Spans.{before, spanOf}
+use Rattle.calendar.specs.Calendar.{lengthIn}
+use Rattle.calendar.proofs.Laws.Spans.{Falls, before-orders, span-found}
+
+-- the table of the code: the days before each month of a year that is no leap year, and those of the year
+abbrev pub daysBefore : List ℕ
+daysBefore = 0 ∷ 31 ∷ 59 ∷ 90 ∷ 120 ∷ 151 ∷ 181 ∷ 212 ∷ 243 ∷ 273 ∷ 304 ∷ 334 ∷ 365 ∷ []
+
+-- ---- the test
+
+unfoldable right : Bool → ℕ → Bool
+right l m =
+    let days = before (lengthIn l) m in
+    eqb days (getD daysBefore m 0 + cond (l && leb 2 m) 1 0) && leb days (32 * m) && leb (32 * m) (days + 32) && leb (lengthIn l m) 31
+
+-- the test passes at each month below n
+unfoldable all : (ℕ → Bool) → ℕ → Bool
+all f zero = true
+all f (suc n) = f n && all f n
+
+at : (f : ℕ → Bool) (n : ℕ) → T (all f n) → (m : ℕ) → m < n → T (f m)
+unfolding all
+at f zero t m h = absurd (not-suc-le-zero h)
+at f (suc n) t m h =
+    let both : T (f n) × T (all f n) = and-yes (f n) (all f n) t in
+    ⊎-elim (λ e. subst (λ (k : ℕ). T (f k)) (omega arith) (both .0)) (λ l. at f n (both .1) m (omega arith)) (eq-or-lt-of-le h)
+
+tested : (l : Bool) → T (all (right l) 13)
+unfolding all right before lengthIn
+tested true = tt
+tested false = tt
+
+-- ---- what it shows of month m
+
+pub record Month (l : Bool) (m : ℕ) : Type 0 where
+  pub begins : before (lengthIn l) m ≡ getD daysBefore m 0 + cond (l && leb 2 m) 1 0
+  pub by : before (lengthIn l) m ≤ 32 * m
+  pub after : 32 * m ≤ before (lengthIn l) m + 32
+  pub short : lengthIn l m ≤ 31
+
+pub month : (l : Bool) (m : ℕ) → m ≤ 12 → Month l m
+unfolding right
+month l m h =
+    let days = before (lengthIn l) m in
+    let first = eqb days (getD daysBefore m 0 + cond (l && leb 2 m) 1 0) in
+    let t = and-yes (first && leb days (32 * m) && leb (32 * m) (days + 32)) (leb (lengthIn l m) 31) (at (right l) 13 (tested l) m (omega arith)) in
+    let u = and-yes (first && leb days (32 * m)) (leb (32 * m) (days + 32)) (t .0) in
+    let v = and-yes first (leb days (32 * m)) (u .0) in
+    record { begins = eqb-yes (v .0); by = leb-yes (v .1); after = leb-yes (u .1); short = leb-yes (t .1) }
+
+-- ---- the inverse: the month of a day
+
+module _ (l : Bool) (j : ℕ) (h : j < before (lengthIn l) 12) where
+  pub guess-small : j / 32 ≤ 11
+  guess-small = omega (arith, month l 12 (omega arith) .by)
+
+  pub month-guessed : j < before (lengthIn l) (j / 32 + 1) → spanOf (lengthIn l) 11 j ≡ j / 32
+  month-guessed e =
+      span-found (lengthIn l) 11 (j / 32) j guess-small
+      (record { begins = omega (arith, month l (j / 32) (omega (arith, guess-small)) .by); ends = rw add-one at e })
+
+  pub month-after-guess : before (lengthIn l) (j / 32 + 1) ≤ j → spanOf (lengthIn l) 11 j ≡ j / 32 + 1
+  month-after-guess e =
+      let small : j / 32 + 1 < 12 = before-orders (lengthIn l) (j / 32 + 1) 12 (omega arith) in
+      span-found (lengthIn l) 11 (j / 32 + 1) j (omega arith)
+      (record { begins = e; ends = omega (arith, month l (suc (j / 32 + 1)) (omega arith) .after) })
