@@ -1,3 +1,5 @@
 pub mod Spans
 pub mod Month
 pub mod Year
+pub mod Date
+pub mod Day

@@ -66,13 +66,26 @@ dayOf t = cond (isDate t) (given (numberOf t)) (refused 22)
 
 -- ---- a day's date
 
--- the date that lies i days after 1 January 1901: its year and its month are the last that begin no later
+-- the day that lies i days after 1 January 1901 falls in the last year that begins no later, counted from 1901,
+abbrev pub yearAt : ℕ → ℕ
+yearAt i = spanOf yearLength 298 i
+
+-- so many days after that year's first,
+abbrev pub dayInYear : ℕ → ℕ
+dayInYear i = i - before yearLength (yearAt i)
+
+-- and in the last month of that year that begins no later
+abbrev pub monthAt : ℕ → ℕ
+monthAt i = spanOf (monthLength (1901 + yearAt i)) 11 (dayInYear i)
+
+-- its date
 unfoldable pub dateAt : ℕ → Date
 dateAt i =
-    let y = spanOf yearLength 298 i in
-    let j = i - before yearLength y in
-    let m = spanOf (monthLength (1901 + y)) 11 j in
-    record { year = 1901 + y; month = m + 1; day = j - before (monthLength (1901 + y)) m + 1 }
+    record {
+        year = 1901 + yearAt i;
+        month = monthAt i + 1;
+        day = dayInYear i - before (monthLength (1901 + yearAt i)) (monthAt i) + 1
+    }
 
 -- "days -25,202 to 84,006"
 unfoldable pub isDay : ℤ → Bool

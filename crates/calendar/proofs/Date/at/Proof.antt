@@ -1,60 +1,66 @@
+-- `calendar::Date::at` meets its contract: each call gives the definition's number, and the numbers of a day of the calendar are small.
+-- Assumes nothing.
+use native.Mathlib.Omega.{arith}
 use borrow.Author.Needs.{needs}
+use Prim.Native.Nat.{_+_, _-_}
+use Rattle.calendar.specs.Calendar.{monthLength, dateAt}
+use Rattle.calendar.proofs.Laws.Spans.{span-within}
+use Rattle.calendar.proofs.Laws.Date.{year-falls, in-year, month-falls, placed, year-is-short, month-is-short}
 use Rattle.calendar.proofs.Date.at.Statement.{statement}
 use Rattle.calendar.proofs.Date.at.Tie as tie
-use Rattle.calendar.proofs.Date.at.Reads as reads
-use Rattle.calendar.proofs.Date.at.Lts as lts
-use Rattle.calendar.proofs.month.days_before_month.Reads as days-before-month-reads
-use Rattle.calendar.proofs.month.month_of.Reads as month-of-reads
-use Rattle.calendar.proofs.year.days_before_year.Reads as days-before-year-reads
-use Rattle.calendar.proofs.year.year_of.Reads as year-of-reads
 
--- src/lib.rt:83:13
 year-of-requires : tie.Need-year-of-requires
 year-of-requires c κs = search needs
 
--- src/lib.rt:84:20
 add-year : tie.Need-add-year
-add-year c = ?
+add-year c = record { fits = omega (arith, c .year-of .ensures, placed (c .before .args .i) (c .before .pre) .year-within) }
 
--- src/lib.rt:85:22
 days-before-year-requires : tie.Need-days-before-year-requires
 days-before-year-requires c κs = search needs
 
--- src/lib.rt:85:18
 sub-j : tie.Need-sub-j
-sub-j c = ?
+sub-j c =
+    let s = c .before .before in
+    rw (c .days-before-year .ensures, c .before .year-of .ensures) (year-falls (s .args .i) (s .pre) .begins)
 
--- src/lib.rt:85:17
 cast-j : tie.Need-cast-j
-cast-j c = ?
+cast-j c =
+    let s = c .before .before in
+    rw (c .days-before-year .ensures, c .before .year-of .ensures) (record { fits = omega (arith, year-is-short (s .args .i) (s .pre)) })
 
--- src/lib.rt:86:13
 month-of-requires : tie.Need-month-of-requires
-month-of-requires c κs = ?
+month-of-requires c κs =
+    let s = c .before .before in
+    rw (c .days-before-year .ensures, c .before .year-of .ensures) (in-year (s .args .i) (s .pre))
 
--- src/lib.rt:87:24
 days-before-month-requires : tie.Need-days-before-month-requires
-days-before-month-requires c κs = ?
+days-before-month-requires c κs =
+    omega (arith, c .month-of .ensures, span-within (monthLength (1901 + c .before .before .year-of .result)) 11 (c .before .before .before .args .i - c .before .days-before-year .result))
 
--- src/lib.rt:87:20
 sub-day : tie.Need-sub-day
-sub-day c = ?
+sub-day c =
+    let s = c .before .before .before .before in
+    rw (c .days-before-month .ensures, c .before .month-of .ensures, c .before .before .days-before-year .ensures, c .before .before .before .year-of .ensures)
+    (month-falls (s .args .i) (s .pre) .begins)
 
--- src/lib.rt:87:19
 cast-day : tie.Need-cast-day
-cast-day c = ?
+cast-day c =
+    let s = c .before .before .before .before in
+    rw (c .days-before-month .ensures, c .before .month-of .ensures, c .before .before .days-before-year .ensures, c .before .before .before .year-of .ensures)
+    (record { fits = omega (arith, month-is-short (s .args .i) (s .pre)) })
 
--- src/lib.rt:90:20
 add-t11 : tie.Need-add-t11
-add-t11 c = ?
+add-t11 c = record { fits = omega (arith, days-before-month-requires (c .before) _) }
 
--- src/lib.rt:91:18
 add-t12 : tie.Need-add-t12
-add-t12 c = ?
+add-t12 c =
+    let s = c .before .before .before .before in
+    rw (c .days-before-month .ensures, c .before .month-of .ensures, c .before .before .days-before-year .ensures, c .before .before .before .year-of .ensures)
+    (record { fits = omega (arith, month-is-short (s .args .i) (s .pre)) })
 
--- src/lib.rt:79:5
 returns : tie.Need-returns
-returns c = ?
+unfolding dateAt
+returns c = rw (c .days-before-month .ensures, c .before .month-of .ensures, c .before .before .days-before-year .ensures, c .before .before .before .year-of .ensures)
 
 pub at-spec : {M : Type 1} → statement M
 at-spec =

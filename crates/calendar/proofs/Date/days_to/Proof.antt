@@ -1,50 +1,42 @@
+-- `calendar::Date::days_to` meets its contract: it sums the same three numbers, which are those of a date and so are small.
+-- Assumes nothing.
+use native.Mathlib.Omega.{arith}
 use borrow.Author.Needs.{needs}
+use Rattle.calendar.specs.Calendar.{daysTo}
+use Rattle.calendar.proofs.Laws.Date.{fields, days-to-small}
 use Rattle.calendar.proofs.Date.days_to.Statement.{statement}
 use Rattle.calendar.proofs.Date.days_to.Tie as tie
-use Rattle.calendar.proofs.Date.days_to.Reads as reads
-use Rattle.calendar.proofs.Date.days_to.Lts as lts
-use Rattle.calendar.proofs.month.days_before_month.Reads as days-before-month-reads
-use Rattle.calendar.proofs.year.days_before_year.Reads as days-before-year-reads
 
--- src/lib.rt:74:46
 sub-days-before-month : tie.Need-sub-days-before-month
-sub-days-before-month c = ?
+sub-days-before-month c = fields (c .args .self) (c .pre) .month-first
 
--- src/lib.rt:74:13
 days-before-month-requires : tie.Need-days-before-month-requires
-days-before-month-requires c κs = ?
+days-before-month-requires c κs = omega (arith, fields (c .args .self) (c .pre) .month-last)
 
--- src/lib.rt:75:26
 sub-days-before-year : tie.Need-sub-days-before-year
-sub-days-before-year c = ?
+sub-days-before-year c = fields (c .before .args .self) (c .before .pre) .year-first
 
--- src/lib.rt:75:9
 days-before-year-requires : tie.Need-days-before-year-requires
 days-before-year-requires c κs = search needs
 
--- src/lib.rt:75:42
 cast-result : tie.Need-cast-result
 cast-result c = search needs
 
--- src/lib.rt:75:9
-add-result : tie.Need-add-result
-add-result c = ?
-
--- src/lib.rt:75:61
 sub-result : tie.Need-sub-result
-sub-result c = ?
+sub-result c = fields (c .before .before .args .self) (c .before .before .pre) .day-first
 
--- src/lib.rt:75:60
 cast-result-2 : tie.Need-cast-result-2
 cast-result-2 c = search needs
 
--- src/lib.rt:75:9
-add-result-2 : tie.Need-add-result-2
-add-result-2 c = ?
-
--- src/lib.rt:67:5
 returns : tie.Need-returns
-returns c = ?
+unfolding daysTo
+returns c = rw (c .days-before-year .ensures, c .before .days-before-month .ensures)
+
+add-result : tie.Need-add-result
+add-result c = let s = c .before .before in record { fits = omega (arith, returns c, days-to-small (s .args .self) (s .pre)) }
+
+add-result-2 : tie.Need-add-result-2
+add-result-2 c = let s = c .before .before in record { fits = omega (arith, returns c, days-to-small (s .args .self) (s .pre)) }
 
 pub days-to-spec : {M : Type 1} → statement M
 days-to-spec =

@@ -1,24 +1,30 @@
+-- `calendar::Date::is_date` meets its contract: the tests are the definition's, and the month is looked up only where there is one.
+-- Assumes nothing.
+use mathlib.Core.Bool.{_&&_}
+use native.Mathlib.Omega.{arith}
+use lib.Dec.{leb}
+use Rattle.calendar.specs.Calendar.{isDate}
+use Rattle.calendar.proofs.Laws.Date.{month-tested}
 use Rattle.calendar.proofs.Date.is_date.Statement.{statement}
 use Rattle.calendar.proofs.Date.is_date.Tie as tie
-use Rattle.calendar.proofs.Date.is_date.Reads as reads
-use Rattle.calendar.proofs.Date.is_date.Lts as lts
-use Rattle.calendar.proofs.month.length_of.Reads as length-of-reads
 
--- src/lib.rt:61:57
 sub-length-of : tie.Need-sub-length-of
-sub-length-of c = ?
+sub-length-of c =
+    let t = c .before .args .self in
+    month-tested (leb 1901 (t .year) && leb (t .year) 2199) (t .month) (c .if1 .taken) .0
 
--- src/lib.rt:61:41
 length-of-requires : tie.Need-length-of-requires
-length-of-requires c κs = ?
+length-of-requires c κs =
+    let t = c .before .args .self in
+    omega (arith, month-tested (leb 1901 (t .year) && leb (t .year) 2199) (t .month) (c .if1 .taken) .1)
 
--- src/lib.rt:61:13
 returns : tie.Need-returns
-returns c = ?
+unfolding isDate
+returns c = rw (c .before .if1 .taken, c .length-of .ensures)
 
--- src/lib.rt:54:5
 returns-2 : tie.Need-returns-2
-returns-2 c = ?
+unfolding isDate
+returns-2 c = rw (c .if1 .left)
 
 pub is-date-spec : {M : Type 1} → statement M
 is-date-spec = tie.close (tie.spec sub-length-of length-of-requires returns returns-2)

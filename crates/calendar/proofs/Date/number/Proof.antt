@@ -1,34 +1,40 @@
+-- `calendar::Date::number` meets its contract: its test is the definition's, and the day since 1 January 1901, less 25,202, is the number.
+-- Assumes nothing.
+use mathlib.Core.Path.{sym, _∙_}
+use native.Mathlib.Omega.{arith}
 use borrow.Author.Needs.{needs}
+use Rattle.calendar.specs.Calendar.{daysTo, dayOf}
+use Rattle.calendar.proofs.Laws.Date.{days-to-small}
+use Rattle.calendar.proofs.Laws.Day.{number-of, number-fits, number-computed}
 use Rattle.calendar.proofs.Date.number.Statement.{statement}
 use Rattle.calendar.proofs.Date.number.Tie as tie
-use Rattle.calendar.proofs.Date.number.Reads as reads
-use Rattle.calendar.proofs.Date.number.Lts as lts
-use Rattle.calendar.proofs.Date.days_to.Reads as days-to-reads
-use Rattle.calendar.proofs.Date.is_date.Reads as is-date-reads
 
--- src/lib.rt:38:12
 is-date-requires : tie.Need-is-date-requires
 is-date-requires c κs = search needs
 
--- src/lib.rt:39:36
 days-to-requires : tie.Need-days-to-requires
-days-to-requires c κs = ?
+days-to-requires c κs = sym (c .before .is-date .ensures) ∙ c .if1 .taken
 
--- src/lib.rt:39:36
 cast-t4 : tie.Need-cast-t4
-cast-t4 c = ?
+cast-t4 c =
+    let e = sym (c .before .before .is-date .ensures) ∙ c .before .if1 .taken in
+    rw (c .days-to .ensures) (record { sfits = omega (arith, days-to-small (c .before .before .before .args .self) e) })
 
--- src/lib.rt:39:35
 sub-t5 : tie.Need-sub-t5
-sub-t5 c = ?
+sub-t5 c =
+    let e = sym (c .before .before .is-date .ensures) ∙ c .before .if1 .taken in
+    rw (c .days-to .ensures) (number-fits (daysTo (c .before .before .before .args .self)) (days-to-small (c .before .before .before .args .self) e))
 
--- src/lib.rt:39:13
 returns : tie.Need-returns
-returns c = ?
+unfolding dayOf
+returns c =
+    let t = c .before .before .before .args .self in
+    let e = sym (c .before .before .is-date .ensures) ∙ c .before .if1 .taken in
+    rw (e, number-of t, c .days-to .ensures, number-computed (daysTo t) (days-to-small t e))
 
--- src/lib.rt:35:5
 returns-2 : tie.Need-returns-2
-returns-2 c = ?
+unfolding dayOf
+returns-2 c = rw (sym (c .before .is-date .ensures) ∙ c .if1 .left)
 
 pub number-spec : {M : Type 1} → statement M
 number-spec =
