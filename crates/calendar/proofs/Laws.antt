@@ -3,3 +3,4 @@ pub mod Month
 pub mod Year
 pub mod Date
 pub mod Day
+pub mod Calendar

@@ -5,7 +5,7 @@
 use Prim.Native.Nat.{ℕ, _+_, _-_, _%_}
 use mathlib.Core.Bool.{Bool, cond, _&&_}
 use mathlib.Core.List.{List, [], _∷_}
-use lib.Dec.{eqb, leb}
+use lib.Dec.{eqb, leb, ltb}
 use lib.ListN.{getD}
 use lib.IntN.{ℤ, pos, negsuc, natAbs, _+ℤ_, _-ℤ_}
 use lib.Signed.{leZ}
@@ -94,6 +94,21 @@ isDay z = leZ (negsuc 25201) z && leZ z (pos 84006)
 -- day number to date
 unfoldable pub dateOf : ℤ → Answer Date
 dateOf z = cond (isDay z) (given (dateAt (natAbs (z +ℤ pos (daysTo dayZero))))) (refused 22)
+
+-- ---- one day on
+
+-- the date after: the next day of the month, else the first of the next month, else 1 January of the next year
+unfoldable pub nextDate : Date → Date
+nextDate t =
+    cond (ltb (t .day) (monthLength (t .year) (t .month - 1)))
+    (record { year = t .year; month = t .month; day = t .day + 1 })
+    (cond (ltb (t .month) 12)
+    (record { year = t .year; month = t .month + 1; day = 1 })
+    (record { year = t .year + 1; month = 1; day = 1 }))
+
+-- the calendar's last date, which has no next
+abbrev pub lastDate : Date
+lastDate = record { year = 2199; month = 12; day = 31 }
 
 -- ---- the answers: what each case of the code's enums says
 

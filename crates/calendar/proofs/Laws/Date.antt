@@ -6,19 +6,19 @@
 --   placed                the date at day i, and that it is a date of the calendar
 -- Assumes nothing.
 use mathlib.Core.Path.{_≡_, refl, ap, sym, subst, _∙_}
-use mathlib.Core.Bool.{Bool, true, false, _&&_}
+use mathlib.Core.Bool.{Bool, true, false, cond, _&&_}
 use Prim.Native.Nat.{ℕ, zero, suc, _+_, _-_, _≤_, _<_}
 use native.Mathlib.Numerals.{add-one}
 use native.Mathlib.Omega.{arith}
-use lib.Dec.{T, leb}
-use borrow.Author.Tests.{le-leb}
+use lib.Dec.{T, leb, ltb}
+use borrow.Author.Tests.{ltb-true, ltb-false, le-leb}
 use mir.Facts.{and-yes, leb-yes}
 use Rattle.calendar.specs.Spans.{before, spanOf}
 use Rattle.calendar.specs.declared.Date.{Date}
-use Rattle.calendar.specs.Calendar.{leap, monthLength, yearLength, isDate, daysTo, yearAt, dayInYear, monthAt, dateAt}
-use Rattle.calendar.proofs.Laws.Spans.{Falls, before-grows, span-found, span-falls, span-within}
+use Rattle.calendar.specs.Calendar.{leap, monthLength, yearLength, isDate, daysTo, yearAt, dayInYear, monthAt, dateAt, nextDate}
+use Rattle.calendar.proofs.Laws.Spans.{Falls, before-first, before-next, before-grows, before-orders, span-found, span-falls, span-within}
 use Rattle.calendar.proofs.Laws.Month.{month}
-use Rattle.calendar.proofs.Laws.Year.{year-begins}
+use Rattle.calendar.proofs.Laws.Year.{year-begins, year-length}
 
 -- ---- what the test of a date says
 
@@ -196,3 +196,52 @@ is-date-at i h = is-date _ _ _ (placed i h)
 pub days-to-date-at : (i : ℕ) → i < 109209 → daysTo (dateAt i) ≡ i
 unfolding dateAt
 days-to-date-at i h = days-to _ _ _ ∙ days-back i h
+
+-- ---- the next date
+
+-- t is the date that lies n days after 1 January 1901
+pub record Lies (t : Date) (n : ℕ) : Type 0 where
+  pub is-date : isDate t ≡ true
+  pub days : daysTo t ≡ n
+
+lies : (k m d n : ℕ) → Three k m d → daysToThree k m d ≡ n → Lies (dateOfThree k m d) n
+lies k m d n h e = record { is-date = is-date k m d h; days = days-to k m d ∙ e }
+
+-- by the definition's two tests: are days left in the month, and months in the year?
+module _ (k m d : ℕ) (h : Three k m d) (more : suc (daysToThree k m d) < 109209) where
+  by-month : (b : Bool) → ltb (m + 1) 12 ≡ b → suc d ≡ monthLength (1901 + k) m → Lies (cond b (dateOfThree k (m + 1) 0) (dateOfThree (k + 1) 0 0)) (suc (daysToThree k m d))
+  by-month true e last =
+      let early : m + 1 < 12 = ltb-true (m + 1) 12 e in
+      lies k (m + 1) 0 (suc (daysToThree k m d))
+      (record { year-within = h .year-within; month-within = omega arith; day-within = omega (arith, month (leap (1901 + k)) (m + 1) (omega arith) .some) })
+      (rw (add-one m, before-next (monthLength (1901 + k)) m) (omega arith))
+  by-month false e last =
+      let december : suc m ≡ 12 = omega (arith, ltb-false (m + 1) 12 e, h .month-within) in
+      let year-on : before yearLength (k + 1) ≡ before yearLength k + before (monthLength (1901 + k)) 12 = rw (add-one k, before-next yearLength k, year-length k) in
+      let month-on = before-next (monthLength (1901 + k)) m in
+      let days : daysToThree (k + 1) 0 0 ≡ suc (daysToThree k m d) = omega (arith, before-first (monthLength (1901 + (k + 1))), ap (before (monthLength (1901 + k))) december) in
+      let early : k + 1 < 299 = before-orders yearLength (k + 1) 299 (omega (arith, days, years-end)) in
+      lies (k + 1) 0 0 (suc (daysToThree k m d))
+      (record { year-within = omega arith; month-within = omega arith; day-within = omega (arith, month (leap (1901 + (k + 1))) 0 (omega arith) .some) })
+      days
+
+  by-day : (b : Bool) → ltb (d + 1) (monthLength (1901 + k) m) ≡ b → Lies (cond b (dateOfThree k m (d + 1)) (cond (ltb (m + 1) 12) (dateOfThree k (m + 1) 0) (dateOfThree (k + 1) 0 0))) (suc (daysToThree k m d))
+  by-day true e =
+      lies k m (d + 1) (suc (daysToThree k m d))
+      (record { year-within = h .year-within; month-within = h .month-within; day-within = ltb-true (d + 1) (monthLength (1901 + k) m) e })
+      (omega arith)
+  by-day false e = by-month (ltb (m + 1) 12) refl (omega (arith, h .day-within, ltb-false (d + 1) (monthLength (1901 + k) m) e))
+
+  next-of-three : Lies (nextDate (dateOfThree k m d)) (suc (daysToThree k m d))
+  unfolding nextDate
+  next-of-three =
+      let year-on : 1901 + k + 1 ≡ 1901 + (k + 1) = omega arith in
+      rw (one-back m, year-on) (by-day (ltb (d + 1) (monthLength (1901 + k) m)) refl)
+
+pub next-date : (t : Date) → isDate t ≡ true → suc (daysTo t) < 109209 → Lies (nextDate t) (suc (daysTo t))
+next-date t e =
+    let k = t .year - 1901 in
+    let m = t .month - 1 in
+    let d = t .day - 1 in
+    subst (λ (u : Date). suc (daysTo u) < 109209 → Lies (nextDate u) (suc (daysTo u))) (is-three t e)
+    (rw (days-to k m d) (next-of-three k m d (three-of t e)))

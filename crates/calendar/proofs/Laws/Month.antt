@@ -27,7 +27,8 @@ daysBefore = 0 ∷ 31 ∷ 59 ∷ 90 ∷ 120 ∷ 151 ∷ 181 ∷ 212 ∷ 243 ∷ 
 unfoldable right : Bool → ℕ → Bool
 right l m =
     let days = before (lengthIn l) m in
-    eqb days (getD daysBefore m 0 + cond (l && leb 2 m) 1 0) && leb days (32 * m) && leb (32 * m) (days + 32) && leb (lengthIn l m) 31
+    eqb days (getD daysBefore m 0 + cond (l && leb 2 m) 1 0)
+    && leb days (32 * m) && leb (32 * m) (days + 32) && leb (lengthIn l m) 31 && leb 12 (m + lengthIn l m)
 
 -- the test passes at each month below n
 unfoldable all : (ℕ → Bool) → ℕ → Bool
@@ -53,16 +54,22 @@ pub record Month (l : Bool) (m : ℕ) : Type 0 where
   pub by : before (lengthIn l) m ≤ 32 * m
   pub after : 32 * m ≤ before (lengthIn l) m + 32
   pub short : lengthIn l m ≤ 31
+  -- a month has a day: at 12, past December, this says nothing
+  pub some : 12 ≤ m + lengthIn l m
 
 pub month : (l : Bool) (m : ℕ) → m ≤ 12 → Month l m
 unfolding right
 month l m h =
     let days = before (lengthIn l) m in
-    let first = eqb days (getD daysBefore m 0 + cond (l && leb 2 m) 1 0) in
-    let t = and-yes (first && leb days (32 * m) && leb (32 * m) (days + 32)) (leb (lengthIn l m) 31) (at (right l) 13 (tested l) m (omega arith)) in
-    let u = and-yes (first && leb days (32 * m)) (leb (32 * m) (days + 32)) (t .0) in
-    let v = and-yes first (leb days (32 * m)) (u .0) in
-    record { begins = eqb-yes (v .0); by = leb-yes (v .1); after = leb-yes (u .1); short = leb-yes (t .1) }
+    let begins? = eqb days (getD daysBefore m 0 + cond (l && leb 2 m) 1 0) in
+    let by? = leb days (32 * m) in
+    let after? = leb (32 * m) (days + 32) in
+    let short? = leb (lengthIn l m) 31 in
+    let all = and-yes (begins? && by? && after? && short?) (leb 12 (m + lengthIn l m)) (at (right l) 13 (tested l) m (omega arith)) in
+    let four = and-yes (begins? && by? && after?) short? (all .0) in
+    let three = and-yes (begins? && by?) after? (four .0) in
+    let two = and-yes begins? by? (three .0) in
+    record { begins = eqb-yes (two .0); by = leb-yes (two .1); after = leb-yes (three .1); short = leb-yes (four .1); some = leb-yes (all .1) }
 
 -- ---- the inverse: the month of a day
 

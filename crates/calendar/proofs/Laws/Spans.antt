@@ -1,14 +1,15 @@
 -- Laws of `before` and `spanOf` (specs/Spans.antt), over any row of spans: they serve the years and the months of a year alike.
---   before-grows     a later span begins no earlier
---   before-orders    so a span that begins earlier is earlier
---   span-found       the span in which a day falls is the one that `spanOf` gives
---   span-falls       and the day does fall in the span that `spanOf` gives, if it lies before the end of the row
---   span-within      which is one of the row
+--   before-first, before-next     the first span begins at 0, and each next one where the one before it ends
+--   before-grows                  a later span begins no earlier
+--   before-orders                 so a span that begins earlier is earlier
+--   span-found                    the span in which a day falls is the one that `spanOf` gives
+--   span-falls                    and the day does fall in the span that `spanOf` gives, if it lies before the end of the row
+--   span-within                   which is one of the row
 -- Assumes nothing.
 use mathlib.Core.Path.{_≡_, refl, ap, sym}
 use mathlib.Core.Bool.{Bool, true, false, cond}
 use mathlib.Core.Logic.{⊎-elim}
-use Prim.Native.Nat.{ℕ, zero, suc, _≤_, _<_, zero-le}
+use Prim.Native.Nat.{ℕ, zero, suc, _+_, _≤_, _<_, zero-le}
 use native.Mathlib.Nat.{eq-or-lt-of-le, le-of-eq, lt-of-not-le, not-le-of-lt, not-suc-le-zero}
 use native.Mathlib.Omega.{arith}
 use lib.Dec.{leb}
@@ -21,6 +22,14 @@ pub record Falls (len : ℕ → ℕ) (i k : ℕ) : Type 0 where
   pub ends : i < before len (suc k)
 
 module _ (len : ℕ → ℕ) where
+  pub before-first : before len 0 ≡ 0
+  unfolding before
+  before-first = refl
+
+  pub before-next : (k : ℕ) → before len (suc k) ≡ before len k + len k
+  unfolding before
+  before-next k = refl
+
   pub before-grows : (k m : ℕ) → k ≤ m → before len k ≤ before len m
   unfolding before
   before-grows zero m h = zero-le

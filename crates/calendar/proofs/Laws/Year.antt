@@ -9,9 +9,13 @@ use native.Mathlib.Omega.{arith}
 use lib.Dec.{eqb}
 use borrow.Author.Tests.{eqb-true, eqb-false}
 use Rattle.calendar.specs.Spans.{before, spanOf}
-use Rattle.calendar.specs.Calendar.{leap, lengthIn, yearLength}
+use Rattle.calendar.specs.Calendar.{leap, lengthIn, monthLength, yearLength}
 use Rattle.calendar.proofs.Laws.Spans.{Falls, span-found}
 use Rattle.calendar.proofs.Laws.Month.{month}
+
+pub year-length : (k : ℕ) → yearLength k ≡ before (monthLength (1901 + k)) 12
+unfolding yearLength
+year-length k = refl
 
 -- the months of a year make 365 days, or 366
 months-of-year : (l : Bool) → before (lengthIn l) 12 ≡ 365 + cond l 1 0
