@@ -91,6 +91,10 @@ dateAt i =
 unfoldable pub isDay : ℤ → Bool
 isDay z = leZ (negsuc 25201) z && leZ z (pos 84006)
 
+-- so many in all: 25,202 before day 0, day 0, and 84,006 after it
+abbrev pub daysInAll : ℕ
+daysInAll = 109209
+
 -- day number to date
 unfoldable pub dateOf : ℤ → Answer Date
 dateOf z = cond (isDay z) (given (dateAt (natAbs (z +ℤ pos (daysTo dayZero))))) (refused 22)

@@ -3,10 +3,10 @@
 -- proofs/Laws/Calendar.antt proves each. Assumes nothing.
 use mathlib.Core.Path.{_≡_}
 use mathlib.Core.Bool.{true}
-use lib.IntN.{ℤ, sucℤ}
-use Rattle.content.specs.Answer.{given}
+use lib.IntN.{ℤ, pos, negsuc, sucℤ}
+use Rattle.content.specs.Answer.{refused, given}
 use Rattle.calendar.specs.declared.Date.{Date}
-use Rattle.calendar.specs.Calendar.{isDate, isDay, numberOf, dayOf, dateOf, nextDate, lastDate}
+use Rattle.calendar.specs.Calendar.{isDate, isDay, dayZero, numberOf, dayOf, dateOf, nextDate, lastDate}
 
 -- date to day number and back: a date has a day's number, and that day's date is the date
 pub record DateComesBack (t : Date) : Type 0 where
@@ -38,3 +38,15 @@ NextDates = (t : Date) → isDate t ≡ true → (t ≡ lastDate → ⊥) → Ne
 -- and the day after a day has the next date
 abbrev pub NextDays : Type 0
 NextDays = (z : ℤ) (t : Date) → dateOf z ≡ given t → isDay (sucℤ z) ≡ true → dateOf (sucℤ z) ≡ given (nextDate t)
+
+-- the calendar's two ends, day 0 and the day before it, and the examples of 01, "Examples at the edges"
+pub record Examples : Type 0 where
+  pub first : dayOf (record { year = 1901; month = 1; day = 1 }) ≡ given (negsuc 25201)
+  pub before-zero : dayOf (record { year = 1969; month = 12; day = 31 }) ≡ given (negsuc 0)
+  pub zero : dayOf dayZero ≡ given (pos 0)
+  pub new-year-2000 : dayOf (record { year = 2000; month = 1; day = 1 }) ≡ given (pos 10957)
+  pub leap-day-2000 : dayOf (record { year = 2000; month = 2; day = 29 }) ≡ given (pos 11016)
+  pub last : dayOf lastDate ≡ given (pos 84006)
+  pub minus-one : dateOf (negsuc 0) ≡ given (record { year = 1969; month = 12; day = 31 })
+  pub after-last : dateOf (pos 84007) ≡ refused 22
+  pub no-such-day : dayOf (record { year = 1903; month = 2; day = 29 }) ≡ refused 22

@@ -6,7 +6,7 @@
 ghost use mathlib.Core.Path.{_≡_};
 ghost use mathlib.Core.Bool.{true};
 ghost use Prim.Native.Nat.{_<_};
-ghost use Rattle.calendar.specs.Calendar.{isDate, daysTo, dateAt, dayOf, dateOf, saidDay, saidDate};
+ghost use Rattle.calendar.specs.Calendar.{isDate, daysTo, dateAt, daysInAll, dayOf, dateOf, saidDay, saidDate};
 use month::{days_before_month, length_of, month_of};
 use year::{days_before_year, year_of};
 
@@ -77,7 +77,7 @@ impl Date {
 
     // The date i days after 1 January 1901.
     fn at(i: u32) -> Date
-        requires { ⌜ i < 109209 ⌝ }
+        requires { ⌜ i < daysInAll ⌝ }
         ensures { λ r. ⌜ r ≡ dateAt i ⌝ }
     {
         let k = year_of(i);

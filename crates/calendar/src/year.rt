@@ -4,7 +4,7 @@
 ghost use mathlib.Core.Path.{_≡_};
 ghost use Prim.Native.Nat.{_<_, _≤_};
 ghost use Rattle.calendar.specs.Spans.{before, spanOf};
-ghost use Rattle.calendar.specs.Calendar.{leap, yearLength};
+ghost use Rattle.calendar.specs.Calendar.{leap, yearLength, daysInAll};
 
 pub fn is_leap(year: u16) -> bool
     ensures { λ r. ⌜ r ≡ leap year ⌝ }
@@ -21,7 +21,7 @@ pub fn days_before_year(k: u16) -> u32
 
 // The year of day i: the last that begins no later.
 pub fn year_of(i: u32) -> u16
-    requires { ⌜ i < 109209 ⌝ }
+    requires { ⌜ i < daysInAll ⌝ }
     ensures { λ r. ⌜ r ≡ spanOf yearLength 298 i ⌝ }
 {
     ((i * 4 + 3) / 1461) as u16

@@ -1,8 +1,8 @@
 -- The promises of specs/Promises.antt, and the calendar's ends and examples.
 --   dates-come-back, days-come-back     date to day number and back undo each other
 --   next-dates, next-days               days that follow one another have numbers that do
---   first-day, last-day, day-zero, day-before-zero, new-year-2000, leap-day-2000     by computation
---   saidDay-tells-apart, saidDate-tells-apart      two answers that say the same are the same
+--   examples                            the calendar's ends and 01's examples
+--   saidDay-tells-apart, saidDate-tells-apart     two answers that say the same are the same
 -- Assumes nothing.
 use mathlib.Core.Path.{_≡_, refl, ap, sym, subst, _∙_}
 use mathlib.Core.Bool.{Bool, true, false, cond}
@@ -19,8 +19,8 @@ use Rattle.calendar.specs.declared.DayAnswer.{DayAnswer}
 use Rattle.calendar.specs.declared.DayAnswer.the-variants as day
 use Rattle.calendar.specs.declared.DateAnswer.{DateAnswer}
 use Rattle.calendar.specs.declared.DateAnswer.the-variants as date
-use Rattle.calendar.specs.Calendar.{lengthIn, monthLength, yearLength, isDate, daysTo, numberOf, dayOf, dateAt, isDay, dateOf, nextDate, lastDate, saidDay, saidDate}
-use Rattle.calendar.specs.Promises.{DateComesBack, DatesComeBack, DayComesBack, DaysComeBack, NextIsOneMore, NextDates, NextDays}
+use Rattle.calendar.specs.Calendar.{lengthIn, monthLength, yearLength, isDate, daysTo, numberOf, dayOf, dateAt, isDay, daysInAll, dateOf, nextDate, lastDate, saidDay, saidDate}
+use Rattle.calendar.specs.Promises.{DateComesBack, DatesComeBack, DayComesBack, DaysComeBack, NextIsOneMore, NextDates, NextDays, Examples}
 use Rattle.calendar.proofs.Laws.Date.{days-to-small, date-of-days-to, is-date-at, days-to-date-at, next-date}
 use Rattle.calendar.proofs.Laws.Day.{days-to-zero, number-of, Index, index, index-is, is-day}
 
@@ -52,7 +52,7 @@ days-come-back z e =
 -- ---- one day on
 
 -- the calendar's last day is the last of its days
-before-last : (t : Date) → isDate t ≡ true → (t ≡ lastDate → ⊥) → suc (daysTo t) < 109209
+before-last : (t : Date) → isDate t ≡ true → (t ≡ lastDate → ⊥) → suc (daysTo t) < daysInAll
 unfolding before lengthIn yearLength isDate daysTo
 before-last t e differs =
     ⊎-elim
@@ -66,7 +66,7 @@ before-last t e differs =
 one-more : (t : Date) → daysTo (nextDate t) ≡ suc (daysTo t) → numberOf (nextDate t) ≡ sucℤ (numberOf t)
 one-more t e = rw (number-of t, number-of (nextDate t), e) (sucℤ-+ℤ (pos (daysTo t)) (negsuc 25201))
 
-next-of : (t : Date) → isDate t ≡ true → suc (daysTo t) < 109209 → NextIsOneMore t
+next-of : (t : Date) → isDate t ≡ true → suc (daysTo t) < daysInAll → NextIsOneMore t
 next-of t e h = let n = next-date t e h in record { in-range = n .is-date; one-more = one-more t (n .days) }
 
 pub next-dates : NextDates
@@ -92,51 +92,41 @@ next-days z t e f =
     let next = next-of t (at-z .0) (omega (arith, x .small, ap natAbs on)) in
     ap (λ (y : ℤ). dateOf (sucℤ y)) (sym (at-z .1)) ∙ ap dateOf (sym (next .one-more)) ∙ dates-come-back (nextDate t) (next .in-range) .back
 
--- ---- examples
+-- ---- the ends and the examples, by computation
 
-pub leap-day-2000 : dayOf (record { year = 2000; month = 2; day = 29 }) ≡ given (pos 11016)
-unfolding before lengthIn yearLength isDate daysTo numberOf dayOf
-leap-day-2000 = refl
+pub examples : Examples
+unfolding before spanOf lengthIn yearLength isDate daysTo numberOf dayOf dateAt isDay dateOf
+examples =
+    record {
+        first = refl;
+        before-zero = refl;
+        zero = refl;
+        new-year-2000 = refl;
+        leap-day-2000 = refl;
+        last = refl;
+        minus-one = refl;
+        after-last = refl;
+        no-such-day = refl
+    }
 
-pub new-year-2000 : dayOf (record { year = 2000; month = 1; day = 1 }) ≡ given (pos 10957)
-unfolding before lengthIn yearLength isDate daysTo numberOf dayOf
-new-year-2000 = refl
+-- ---- the answers: each of the two enums has a case for a refusal and a case for a value
 
-pub first-day : dayOf (record { year = 1901; month = 1; day = 1 }) ≡ given (negsuc 25201)
-unfolding before lengthIn yearLength isDate daysTo numberOf dayOf
-first-day = refl
+again : {A E : Type 0} → (ℕ → E) → (A → E) → Answer A → E
+again no-value value (refused k) = no-value k
+again no-value value (given a) = value a
 
-pub last-day : dayOf lastDate ≡ given (pos 84006)
-unfolding before lengthIn yearLength isDate daysTo numberOf dayOf
-last-day = refl
+day-again : (a : DayAnswer) → again day.Refused day.Day (saidDay a) ≡ a
+unfolding again
+day-again (day.Refused k) = refl
+day-again (day.Day z) = refl
 
-pub day-before-zero : dateOf (negsuc 0) ≡ given (record { year = 1969; month = 12; day = 31 })
-unfolding before lengthIn spanOf yearLength daysTo dateAt isDay dateOf
-day-before-zero = refl
-
--- ---- the answers
-
--- the answer that says this
-againDay : Answer ℤ → DayAnswer
-againDay (refused k) = day.Refused k
-againDay (given z) = day.Day z
-
-foundDay : (a : DayAnswer) → againDay (saidDay a) ≡ a
-unfolding againDay
-foundDay (day.Refused k) = refl
-foundDay (day.Day z) = refl
+date-again : (a : DateAnswer) → again date.Refused date.Date (saidDate a) ≡ a
+unfolding again
+date-again (date.Refused k) = refl
+date-again (date.Date t) = refl
 
 pub saidDay-tells-apart : {a b : DayAnswer} → saidDay a ≡ saidDay b → a ≡ b
-saidDay-tells-apart = apart saidDay againDay foundDay
-
-againDate : Answer Date → DateAnswer
-againDate (refused k) = date.Refused k
-againDate (given t) = date.Date t
-
-foundDate : (a : DateAnswer) → againDate (saidDate a) ≡ a
-unfolding againDate
-foundDate (date.Refused k) = refl
-foundDate (date.Date t) = refl
+saidDay-tells-apart = apart saidDay (again day.Refused day.Day) day-again
 
 pub saidDate-tells-apart : {a b : DateAnswer} → saidDate a ≡ saidDate b → a ≡ b
-saidDate-tells-apart = apart saidDate againDate foundDate
+saidDate-tells-apart = apart saidDate (again date.Refused date.Date) date-again

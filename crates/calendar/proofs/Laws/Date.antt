@@ -15,7 +15,7 @@ use borrow.Author.Tests.{ltb-true, ltb-false, le-leb}
 use mir.Facts.{and-yes, leb-yes}
 use Rattle.calendar.specs.Spans.{before, spanOf}
 use Rattle.calendar.specs.declared.Date.{Date}
-use Rattle.calendar.specs.Calendar.{leap, monthLength, yearLength, isDate, daysTo, yearAt, dayInYear, monthAt, dateAt, nextDate}
+use Rattle.calendar.specs.Calendar.{leap, monthLength, yearLength, isDate, daysTo, yearAt, dayInYear, monthAt, dateAt, daysInAll, nextDate}
 use Rattle.calendar.proofs.Laws.Spans.{Falls, before-first, before-next, before-grows, before-orders, span-found, span-falls, span-within}
 use Rattle.calendar.proofs.Laws.Month.{month}
 use Rattle.calendar.proofs.Laws.Year.{year-begins, year-length}
@@ -118,7 +118,7 @@ is-three t e =
 -- ---- the date at day i
 
 -- the calendar's years have 109,209 days
-years-end : before yearLength 299 ≡ 109209
+years-end : before yearLength 299 ≡ daysInAll
 years-end = year-begins 299
 
 module _ (k m d : ℕ) (h : Three k m d) where
@@ -134,7 +134,7 @@ module _ (k m d : ℕ) (h : Three k m d) where
           ends = omega (arith, in-its-month .ends, before-grows (monthLength (1901 + k)) (suc m) 12 (omega (arith, h .month-within)))
       }
 
-  pub days-within : daysToThree k m d < 109209
+  pub days-within : daysToThree k m d < daysInAll
   days-within = omega (arith, in-its-year .ends, before-grows yearLength (suc k) 299 (omega (arith, h .year-within)), years-end)
 
   pub date-found : dateAt (daysToThree k m d) ≡ dateOfThree k m d
@@ -147,7 +147,7 @@ module _ (k m d : ℕ) (h : Three k m d) where
       let day : days - before (monthLength (1901 + k)) m ≡ d = omega arith in
       rw (year, rest, month, day)
 
-module _ (i : ℕ) (h : i < 109209) where
+module _ (i : ℕ) (h : i < daysInAll) where
   pub year-falls : Falls yearLength i (yearAt i)
   year-falls = span-falls yearLength 298 i (omega (arith, years-end))
 
@@ -179,21 +179,21 @@ module _ (i : ℕ) (h : i < 109209) where
 
 -- ---- date to days and back
 
-pub days-to-small : (t : Date) → isDate t ≡ true → daysTo t < 109209
+pub days-to-small : (t : Date) → isDate t ≡ true → daysTo t < daysInAll
 days-to-small t e =
     let three = three-of t e in
-    subst (λ (u : Date). daysTo u < 109209) (is-three t e) (rw (days-to (t .year - 1901) (t .month - 1) (t .day - 1)) (days-within _ _ _ three))
+    subst (λ (u : Date). daysTo u < daysInAll) (is-three t e) (rw (days-to (t .year - 1901) (t .month - 1) (t .day - 1)) (days-within _ _ _ three))
 
 pub date-of-days-to : (t : Date) → isDate t ≡ true → dateAt (daysTo t) ≡ t
 date-of-days-to t e =
     subst (λ (u : Date). dateAt (daysTo u) ≡ u) (is-three t e)
     (rw (days-to (t .year - 1901) (t .month - 1) (t .day - 1)) (date-found _ _ _ (three-of t e)))
 
-pub is-date-at : (i : ℕ) → i < 109209 → isDate (dateAt i) ≡ true
+pub is-date-at : (i : ℕ) → i < daysInAll → isDate (dateAt i) ≡ true
 unfolding dateAt
 is-date-at i h = is-date _ _ _ (placed i h)
 
-pub days-to-date-at : (i : ℕ) → i < 109209 → daysTo (dateAt i) ≡ i
+pub days-to-date-at : (i : ℕ) → i < daysInAll → daysTo (dateAt i) ≡ i
 unfolding dateAt
 days-to-date-at i h = days-to _ _ _ ∙ days-back i h
 
@@ -208,7 +208,7 @@ lies : (k m d n : ℕ) → Three k m d → daysToThree k m d ≡ n → Lies (dat
 lies k m d n h e = record { is-date = is-date k m d h; days = days-to k m d ∙ e }
 
 -- by the definition's two tests: are days left in the month, and months in the year?
-module _ (k m d : ℕ) (h : Three k m d) (more : suc (daysToThree k m d) < 109209) where
+module _ (k m d : ℕ) (h : Three k m d) (more : suc (daysToThree k m d) < daysInAll) where
   by-month : (b : Bool) → ltb (m + 1) 12 ≡ b → suc d ≡ monthLength (1901 + k) m → Lies (cond b (dateOfThree k (m + 1) 0) (dateOfThree (k + 1) 0 0)) (suc (daysToThree k m d))
   by-month true e last =
       let early : m + 1 < 12 = ltb-true (m + 1) 12 e in
@@ -238,10 +238,10 @@ module _ (k m d : ℕ) (h : Three k m d) (more : suc (daysToThree k m d) < 10920
       let year-on : 1901 + k + 1 ≡ 1901 + (k + 1) = omega arith in
       rw (one-back m, year-on) (by-day (ltb (d + 1) (monthLength (1901 + k) m)) refl)
 
-pub next-date : (t : Date) → isDate t ≡ true → suc (daysTo t) < 109209 → Lies (nextDate t) (suc (daysTo t))
+pub next-date : (t : Date) → isDate t ≡ true → suc (daysTo t) < daysInAll → Lies (nextDate t) (suc (daysTo t))
 next-date t e =
     let k = t .year - 1901 in
     let m = t .month - 1 in
     let d = t .day - 1 in
-    subst (λ (u : Date). suc (daysTo u) < 109209 → Lies (nextDate u) (suc (daysTo u))) (is-three t e)
+    subst (λ (u : Date). suc (daysTo u) < daysInAll → Lies (nextDate u) (suc (daysTo u))) (is-three t e)
     (rw (days-to k m d) (next-of-three k m d (three-of t e)))

@@ -19,7 +19,7 @@ use mir.Syntax.{w32}
 use mir.Val.{SFits, toZ, ofZ}
 use Rattle.calendar.specs.Spans.{before}
 use Rattle.calendar.specs.declared.Date.{Date}
-use Rattle.calendar.specs.Calendar.{lengthIn, yearLength, daysTo, dayZero, numberOf, isDay}
+use Rattle.calendar.specs.Calendar.{lengthIn, yearLength, daysTo, dayZero, numberOf, isDay, daysInAll}
 
 pub days-to-zero : daysTo dayZero ≡ 25202
 unfolding before lengthIn yearLength daysTo
@@ -32,7 +32,7 @@ number-of t = rw days-to-zero
 -- day i since 1 January 1901 has the number z
 pub record Index (z : ℤ) : Type 0 where
   pub i : ℕ
-  pub small : i < 109209
+  pub small : i < daysInAll
   pub plus : z +ℤ pos 25202 ≡ pos i
 
 pub index : (z : ℤ) → isDay z ≡ true → Index z
@@ -45,12 +45,12 @@ index (negsuc n) e =
 pub index-is : (z : ℤ) (x : Index z) → z ≡ pos (x .i) -ℤ pos 25202
 index-is z x = sym (+ℤ-negℤ-cancel z (pos 25202)) ∙ ap (λ (y : ℤ). y -ℤ pos 25202) (x .plus)
 
-within : (i : ℕ) (b : Bool) → ltb i 25202 ≡ b → i < 109209 → isDay (cond b (negsuc (25202 - suc i)) (pos (i - 25202))) ≡ true
+within : (i : ℕ) (b : Bool) → ltb i 25202 ≡ b → i < daysInAll → isDay (cond b (negsuc (25202 - suc i)) (pos (i - 25202))) ≡ true
 unfolding isDay
 within i true e h = rw (le-leb (25202 - suc i) 25201 (omega (arith, ltb-true i 25202 e)))
 within i false e h = le-leb (i - 25202) 84006 (omega (arith, ltb-false i 25202 e))
 
-pub is-day : (i : ℕ) → i < 109209 → isDay (pos i -ℤ pos 25202) ≡ true
+pub is-day : (i : ℕ) → i < daysInAll → isDay (pos i -ℤ pos 25202) ≡ true
 is-day i h = within i (ltb i 25202) refl h
 
 pub day-fits : (z : ℤ) → isDay z ≡ true → SFits w32 z
@@ -63,8 +63,8 @@ day-fits (negsuc n) e = record { sfits = omega (arith, leb-yes {a = n} {b = 2520
 pub index-computed : (z : ℤ) (x : Index z) → SFits w32 z → toZ w32 (ofZ w32 (toZ w32 (ofZ w32 z) +ℤ pos 25202)) ≡ pos (x .i)
 index-computed z x f = rw (toZ-ofZ f, x .plus) (toZ-pos w32 (omega (arith, x .small)))
 
-pub number-fits : (i : ℕ) → i < 109209 → SFits w32 (toZ w32 i -ℤ pos 25202)
+pub number-fits : (i : ℕ) → i < daysInAll → SFits w32 (toZ w32 i -ℤ pos 25202)
 number-fits i h = rw (toZ-pos w32 {n = i} (omega arith)) (day-fits (pos i -ℤ pos 25202) (is-day i h))
 
-pub number-computed : (i : ℕ) → i < 109209 → toZ w32 (ofZ w32 (toZ w32 i -ℤ pos 25202)) ≡ pos i -ℤ pos 25202
+pub number-computed : (i : ℕ) → i < daysInAll → toZ w32 (ofZ w32 (toZ w32 i -ℤ pos 25202)) ≡ pos i -ℤ pos 25202
 number-computed i h = toZ-ofZ (number-fits i h) ∙ rw (toZ-pos w32 {n = i} (omega arith))

@@ -9,7 +9,7 @@ use native.Mathlib.Omega.{arith}
 use lib.Dec.{eqb}
 use borrow.Author.Tests.{eqb-true, eqb-false}
 use Rattle.calendar.specs.Spans.{before, spanOf}
-use Rattle.calendar.specs.Calendar.{leap, lengthIn, monthLength, yearLength}
+use Rattle.calendar.specs.Calendar.{leap, lengthIn, monthLength, yearLength, daysInAll}
 use Rattle.calendar.proofs.Laws.Spans.{Falls, span-found}
 use Rattle.calendar.proofs.Laws.Month.{month}
 
@@ -37,7 +37,7 @@ year-begins (suc k) =
     let b = leap (1901 + k) in
     omega (arith, year-begins k, months-of-year b, by-fours k, by-fours (suc k), fourth k b refl)
 
-pub year-found : (i : ℕ) → i < 109209 → spanOf yearLength 298 i ≡ (i * 4 + 3) / 1461
+pub year-found : (i : ℕ) → i < daysInAll → spanOf yearLength 298 i ≡ (i * 4 + 3) / 1461
 year-found i h =
     let k = (i * 4 + 3) / 1461 in
     span-found yearLength 298 k i (omega arith)
