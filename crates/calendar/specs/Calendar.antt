@@ -82,9 +82,9 @@ monthAt i = spanOf (monthLength (1901 + yearAt i)) 11 (dayInYear i)
 unfoldable pub dateAt : ℕ → Date
 dateAt i =
     record {
-        year = 1901 + yearAt i;
-        month = monthAt i + 1;
-        day = dayInYear i - before (monthLength (1901 + yearAt i)) (monthAt i) + 1
+      year = 1901 + yearAt i;
+      month = monthAt i + 1;
+      day = dayInYear i - before (monthLength (1901 + yearAt i)) (monthAt i) + 1;
     }
 
 -- "days -25,202 to 84,006"

@@ -7,8 +7,11 @@ ghost use mathlib.Core.Path.{_≡_};
 ghost use mathlib.Core.Bool.{true};
 ghost use Prim.Native.Nat.{_<_};
 ghost use Rattle.calendar.specs.Calendar.{isDate, daysTo, dateAt, daysInAll, dayOf, dateOf, saidDay, saidDate};
-use month::{days_before_month, length_of, month_of};
-use year::{days_before_year, year_of};
+use month::days_before_month;
+use month::length_of;
+use month::month_of;
+use year::days_before_year;
+use year::year_of;
 
 mod month;
 mod year;

@@ -35,8 +35,8 @@ pub fn days_before_month(year: u16, m: u8) -> u16
     days
 }
 
-// The month of day j of the year. No month is longer than 32 days, and the months before any month
-// are at most 32 days short of 32 days each: so it is month j / 32 or the next.
+// The month of day j of the year. Months of 32 days each would begin no earlier than the true ones,
+// and at most 32 days later: so it is month j / 32 or the next.
 pub fn month_of(year: u16, j: u16) -> u8
     requires { ⌜ j < before (monthLength year) 12 ⌝ }
     ensures { λ r. ⌜ r ≡ spanOf (monthLength year) 11 j ⌝ }

@@ -4,7 +4,9 @@
 // Three lines say how many answers differ: of every day of the calendar, as a date and back; of a
 // grid of dates around its edges, most of which are none; and of days outside it.
 ghost use Prim.Native.Nat.{_≤_};
-use calendar::{Date, DateAnswer, DayAnswer};
+use calendar::Date;
+use calendar::DateAnswer;
+use calendar::DayAnswer;
 use libc::STDOUT_FILENO;
 
 // Where the walk is: a date and its day's number. Past the last date it stays on 1 January 2200.
@@ -26,13 +28,7 @@ fn start() -> Walk {
 
 fn last_day(year: u16, month: u8) -> u8 {
     match month {
-        2 => {
-            if year / 4 * 4 == year {
-                29
-            } else {
-                28
-            }
-        }
+        2 => { if year / 4 * 4 == year { 29 } else { 28 } }
         4 | 6 | 9 | 11 => 30,
         _ => 31,
     }

@@ -32,9 +32,9 @@ dates-come-back t e =
     let i = daysTo t in
     let z-is-day : isDay (numberOf t) ≡ true = rw (number-of t) (is-day i (days-to-small t e)) in
     record {
-        numbered = rw e;
-        in-range = z-is-day;
-        back = rw (z-is-day, days-to-zero, number-of t, -ℤ-+ℤ-cancel (pos i) (pos 25202), date-of-days-to t e)
+      numbered = rw e;
+      in-range = z-is-day;
+      back = rw (z-is-day, days-to-zero, number-of t, -ℤ-+ℤ-cancel (pos i) (pos 25202), date-of-days-to t e);
     }
 
 pub days-come-back : DaysComeBack
@@ -43,10 +43,10 @@ days-come-back z e =
     let x = index z e in
     let t-is-date = is-date-at (x .i) (x .small) in
     record {
-        date = dateAt (x .i);
-        dated = rw (e, days-to-zero, x .plus);
-        in-range = t-is-date;
-        back = rw (t-is-date, number-of (dateAt (x .i)), days-to-date-at (x .i) (x .small)) (ap given (sym (index-is z x)))
+      date = dateAt (x .i);
+      dated = rw (e, days-to-zero, x .plus);
+      in-range = t-is-date;
+      back = rw (t-is-date, number-of (dateAt (x .i)), days-to-date-at (x .i) (x .small)) (ap given (sym (index-is z x)));
     }
 
 -- ---- one day on
@@ -57,8 +57,8 @@ unfolding before lengthIn yearLength isDate daysTo
 before-last t e differs =
     ⊎-elim
     (λ last.
-        let same : daysTo t ≡ daysTo lastDate = omega arith in
-        absurd (differs (sym (date-of-days-to t e) ∙ ap dateAt same ∙ date-of-days-to lastDate refl)))
+    let same : daysTo t ≡ daysTo lastDate = omega arith in
+    absurd (differs (sym (date-of-days-to t e) ∙ ap dateAt same ∙ date-of-days-to lastDate refl)))
     (λ l. l)
     (eq-or-lt-of-le (days-to-small t e))
 
@@ -87,7 +87,7 @@ next-days z t e f =
     let at-z = dated-day z t (isDay z) refl e in
     let x = index (sucℤ z) f in
     let on : pos (x .i) ≡ pos (suc (daysTo t)) =
-        sym (x .plus) ∙ sucℤ-+ℤ z (pos 25202) ∙ ap (λ (y : ℤ). sucℤ (y +ℤ pos 25202)) (sym (at-z .1) ∙ number-of t) ∙ ap sucℤ (-ℤ-+ℤ-cancel (pos (daysTo t)) (pos 25202))
+    sym (x .plus) ∙ sucℤ-+ℤ z (pos 25202) ∙ ap (λ (y : ℤ). sucℤ (y +ℤ pos 25202)) (sym (at-z .1) ∙ number-of t) ∙ ap sucℤ (-ℤ-+ℤ-cancel (pos (daysTo t)) (pos 25202))
     in
     let next = next-of t (at-z .0) (omega (arith, x .small, ap natAbs on)) in
     ap (λ (y : ℤ). dateOf (sucℤ y)) (sym (at-z .1)) ∙ ap dateOf (sym (next .one-more)) ∙ dates-come-back (nextDate t) (next .in-range) .back
@@ -98,15 +98,15 @@ pub examples : Examples
 unfolding before spanOf lengthIn yearLength isDate daysTo numberOf dayOf dateAt isDay dateOf
 examples =
     record {
-        first = refl;
-        before-zero = refl;
-        zero = refl;
-        new-year-2000 = refl;
-        leap-day-2000 = refl;
-        last = refl;
-        minus-one = refl;
-        after-last = refl;
-        no-such-day = refl
+      first = refl;
+      before-zero = refl;
+      zero = refl;
+      new-year-2000 = refl;
+      leap-day-2000 = refl;
+      last = refl;
+      minus-one = refl;
+      after-last = refl;
+      no-such-day = refl;
     }
 
 -- ---- the answers: each of the two enums has a case for a refusal and a case for a value

@@ -51,12 +51,12 @@ fields t e =
     let to-m₁ = and-yes (y₁ && y₂) m₁ (to-m₂ .0) in
     let to-y₂ = and-yes y₁ y₂ (to-m₁ .0) in
     record {
-        year-first = leb-yes (to-y₂ .0);
-        year-last = leb-yes (to-y₂ .1);
-        month-first = leb-yes (to-m₁ .1);
-        month-last = leb-yes (to-m₂ .1);
-        day-first = leb-yes (to-d₁ .1);
-        day-last = leb-yes (to-d₂ .1)
+      year-first = leb-yes (to-y₂ .0);
+      year-last = leb-yes (to-y₂ .1);
+      month-first = leb-yes (to-m₁ .1);
+      month-last = leb-yes (to-m₂ .1);
+      day-first = leb-yes (to-d₁ .1);
+      day-last = leb-yes (to-d₂ .1);
     }
 
 pub of-fields : (t : Date) → Fields t → isDate t ≡ true
@@ -84,12 +84,12 @@ pub is-date : (k m d : ℕ) → Three k m d → isDate (dateOfThree k m d) ≡ t
 is-date k m d h =
     of-fields (dateOfThree k m d)
     (record {
-        year-first = omega arith;
-        year-last = omega (arith, h .year-within);
-        month-first = omega arith;
-        month-last = omega (arith, h .month-within);
-        day-first = omega arith;
-        day-last = rw (one-back m) (omega (arith, h .day-within))
+      year-first = omega arith;
+      year-last = omega (arith, h .year-within);
+      month-first = omega arith;
+      month-last = omega (arith, h .month-within);
+      day-first = omega arith;
+      day-last = rw (one-back m) (omega (arith, h .day-within));
     })
 
 pub days-to : (k m d : ℕ) → daysTo (dateOfThree k m d) ≡ daysToThree k m d
@@ -102,9 +102,9 @@ three-of t e =
     let f = fields t e in
     let year-there : 1901 + (t .year - 1901) ≡ t .year = omega (arith, f .year-first) in
     record {
-        year-within = omega (arith, f .year-last);
-        month-within = omega (arith, f .month-last);
-        day-within = rw year-there (omega (arith, f .day-first, f .day-last))
+      year-within = omega (arith, f .year-last);
+      month-within = omega (arith, f .month-last);
+      day-within = rw year-there (omega (arith, f .day-first, f .day-last));
     }
 
 pub is-three : (t : Date) → isDate t ≡ true → dateOfThree (t .year - 1901) (t .month - 1) (t .day - 1) ≡ t
@@ -130,8 +130,8 @@ module _ (k m d : ℕ) (h : Three k m d) where
   unfolding before yearLength
   in-its-year =
       record {
-          begins = omega arith;
-          ends = omega (arith, in-its-month .ends, before-grows (monthLength (1901 + k)) (suc m) 12 (omega (arith, h .month-within)))
+        begins = omega arith;
+        ends = omega (arith, in-its-month .ends, before-grows (monthLength (1901 + k)) (suc m) 12 (omega (arith, h .month-within)));
       }
 
   pub days-within : daysToThree k m d < daysInAll
@@ -162,9 +162,9 @@ module _ (i : ℕ) (h : i < daysInAll) where
   unfolding before
   placed =
       record {
-          year-within = span-within yearLength 298 i;
-          month-within = span-within (monthLength (1901 + yearAt i)) 11 (dayInYear i);
-          day-within = omega (arith, month-falls .begins, month-falls .ends)
+        year-within = span-within yearLength 298 i;
+        month-within = span-within (monthLength (1901 + yearAt i)) 11 (dayInYear i);
+        day-within = omega (arith, month-falls .begins, month-falls .ends);
       }
 
   pub year-is-short : dayInYear i < 384

@@ -14,9 +14,9 @@ use lib.Dec.{T, leb, ltb}
 use lib.IntN.{ℤ, pos, negsuc, _+ℤ_, _-ℤ_, +ℤ-negℤ-cancel}
 use lib.Signed.{mag, leZ}
 use borrow.Author.Tests.{ltb-true, ltb-false, le-ltb, le-leb}
-use mir.Facts.{and-yes, leb-yes, toZ-ofZ, toZ-pos}
+use mir.Facts.{and-yes, leb-yes}
 use mir.Syntax.{w32}
-use mir.Val.{SFits, toZ, ofZ}
+use mir.Val.{SFits}
 use Rattle.calendar.specs.Spans.{before}
 use Rattle.calendar.specs.declared.Date.{Date}
 use Rattle.calendar.specs.Calendar.{lengthIn, yearLength, daysTo, dayZero, numberOf, isDay, daysInAll}
@@ -57,14 +57,3 @@ pub day-fits : (z : ℤ) → isDay z ≡ true → SFits w32 z
 unfolding isDay
 day-fits (pos n) e = record { sfits = omega (arith, leb-yes {a = n} {b = 84006} (subst T (sym e) tt)) }
 day-fits (negsuc n) e = record { sfits = omega (arith, leb-yes {a = n} {b = 25201} (and-yes (leb n 25201) true (subst T (sym e) tt) .0)) }
-
--- ---- as the code computes them: a signed number of the code shows as `toZ w (ofZ w z)`, the number of its own pattern
-
-pub index-computed : (z : ℤ) (x : Index z) → SFits w32 z → toZ w32 (ofZ w32 (toZ w32 (ofZ w32 z) +ℤ pos 25202)) ≡ pos (x .i)
-index-computed z x f = rw (toZ-ofZ f, x .plus) (toZ-pos w32 (omega (arith, x .small)))
-
-pub number-fits : (i : ℕ) → i < daysInAll → SFits w32 (toZ w32 i -ℤ pos 25202)
-number-fits i h = rw (toZ-pos w32 {n = i} (omega arith)) (day-fits (pos i -ℤ pos 25202) (is-day i h))
-
-pub number-computed : (i : ℕ) → i < daysInAll → toZ w32 (ofZ w32 (toZ w32 i -ℤ pos 25202)) ≡ pos i -ℤ pos 25202
-number-computed i h = toZ-ofZ (number-fits i h) ∙ rw (toZ-pos w32 {n = i} (omega arith))

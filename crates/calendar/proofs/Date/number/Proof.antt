@@ -4,8 +4,9 @@ use mathlib.Core.Path.{sym, _∙_}
 use native.Mathlib.Omega.{arith}
 use borrow.Author.Needs.{needs}
 use Rattle.calendar.specs.Calendar.{daysTo, dayOf}
+use Rattle.calendar.proofs.Computed.{number-fits, number-computed}
 use Rattle.calendar.proofs.Laws.Date.{days-to-small}
-use Rattle.calendar.proofs.Laws.Day.{number-of, number-fits, number-computed}
+use Rattle.calendar.proofs.Laws.Day.{number-of}
 use Rattle.calendar.proofs.Date.number.Statement.{statement}
 use Rattle.calendar.proofs.Date.number.Tie as tie
 
@@ -22,8 +23,9 @@ cast-t4 c =
 
 sub-t5 : tie.Need-sub-t5
 sub-t5 c =
+    let t = c .before .before .before .args .self in
     let e = sym (c .before .before .is-date .ensures) ∙ c .before .if1 .taken in
-    rw (c .days-to .ensures) (number-fits (daysTo (c .before .before .before .args .self)) (days-to-small (c .before .before .before .args .self) e))
+    rw (c .days-to .ensures) (number-fits (daysTo t) (days-to-small t e))
 
 returns : tie.Need-returns
 unfolding dayOf
