@@ -66,19 +66,19 @@ dayOf t = cond (isDate t) (given (numberOf t)) (refused 22)
 
 -- ---- a day's date
 
--- the day that lies i days after 1 January 1901 falls in the last year that begins no later, counted from 1901,
+-- of the day that lies i days after 1 January 1901: its year, counted from 1901, is the last that begins no later
 abbrev pub yearAt : ℕ → ℕ
 yearAt i = spanOf yearLength 298 i
 
--- so many days after that year's first,
+-- so many days of that year lie before it
 abbrev pub dayInYear : ℕ → ℕ
 dayInYear i = i - before yearLength (yearAt i)
 
--- and in the last month of that year that begins no later
+-- its month, counted from 0, is the last of that year that begins no later
 abbrev pub monthAt : ℕ → ℕ
 monthAt i = spanOf (monthLength (1901 + yearAt i)) 11 (dayInYear i)
 
--- its date
+-- and this is its date
 unfoldable pub dateAt : ℕ → Date
 dateAt i =
     record {

@@ -13,7 +13,7 @@ const LENGTHS: [u8; 12] = [31, 28, 31, 30, 31, 30, 31, 31, 30, 31, 30, 31];
 // The days before each month of such a year, and those of the year.
 const BEFORE: [u16; 13] = [0, 31, 59, 90, 120, 151, 181, 212, 243, 273, 304, 334, 365];
 
-pub fn length_of(year: u16, m: u8) -> u8
+pub(crate) fn length_of(year: u16, m: u8) -> u8
     requires { ⌜ m < 12 ⌝ }
     ensures { λ r. ⌜ r ≡ monthLength year m ⌝ }
 {
@@ -24,7 +24,7 @@ pub fn length_of(year: u16, m: u8) -> u8
     days
 }
 
-pub fn days_before_month(year: u16, m: u8) -> u16
+pub(crate) fn days_before_month(year: u16, m: u8) -> u16
     requires { ⌜ m ≤ 12 ⌝ }
     ensures { λ r. ⌜ r ≡ before (monthLength year) m ⌝ }
 {
@@ -37,7 +37,7 @@ pub fn days_before_month(year: u16, m: u8) -> u16
 
 // The month of day j of the year. Months of 32 days each would begin no earlier than the true ones,
 // and at most 32 days later: so it is month j / 32 or the next.
-pub fn month_of(year: u16, j: u16) -> u8
+pub(crate) fn month_of(year: u16, j: u16) -> u8
     requires { ⌜ j < before (monthLength year) 12 ⌝ }
     ensures { λ r. ⌜ r ≡ spanOf (monthLength year) 11 j ⌝ }
 {

@@ -6,21 +6,21 @@ ghost use Prim.Native.Nat.{_<_, _≤_};
 ghost use Rattle.calendar.specs.Spans.{before, spanOf};
 ghost use Rattle.calendar.specs.Calendar.{leap, yearLength, daysInAll};
 
-pub fn is_leap(year: u16) -> bool
+pub(crate) fn is_leap(year: u16) -> bool
     ensures { λ r. ⌜ r ≡ leap year ⌝ }
 {
     year % 4 == 0
 }
 
 // The days before year k. Four years have 1,461 days, the leap year being the last of the four.
-pub fn days_before_year(k: u16) -> u32
+pub(crate) fn days_before_year(k: u16) -> u32
     ensures { λ r. ⌜ r ≡ before yearLength k ⌝ }
 {
     (k as u32) * 1461 / 4
 }
 
 // The year of day i: the last that begins no later.
-pub fn year_of(i: u32) -> u16
+pub(crate) fn year_of(i: u32) -> u16
     requires { ⌜ i < daysInAll ⌝ }
     ensures { λ r. ⌜ r ≡ spanOf yearLength 298 i ⌝ }
 {

@@ -84,11 +84,15 @@ fn dated(w: Walk) -> u64
     1
 }
 
+fn is_on(w: Walk, t: Date) -> bool {
+    (w.year == t.year) & (w.month == t.month) & (w.day == t.day) & (w.year <= 2199)
+}
+
 // 0 where the calendar gives a date the walk's number if the walk is on it, and 22 if it is not.
-fn numbered(t: Date, w: Walk) -> u64
+fn numbered(w: Walk, t: Date) -> u64
     ensures { λ r. ⌜ r ≤ 1 ⌝ }
 {
-    let on = (t.year == w.year) & (t.month == w.month) & (t.day == w.day) & (w.year <= 2199);
+    let on = is_on(w, t);
     let number = w.number;
     let answer = t.number();
     match answer {
@@ -130,12 +134,12 @@ fn days_that_differ() -> u64 {
     for i in 0..109209u32 {
         differ += dated(w);
         differ += numbered(
+            w,
             Date {
                 year: w.year,
                 month: w.month,
                 day: w.day,
             },
-            w,
         );
         w = step(w);
     }
@@ -215,15 +219,29 @@ fn walk_to(w: Walk, t: Date) -> Walk {
     w
 }
 
-fn grid_that_differs() -> u64 {
+struct Count {
+    known: u64,
+    differ: u64,
+}
+
+fn one_if(b: bool) -> u64
+    ensures { λ r. ⌜ r ≤ 1 ⌝ }
+{
+    if b { 1 } else { 0 }
+}
+
+// How many dates of the grid the walk comes to, and how many answers differ.
+fn grid_counted() -> Count {
+    let mut known = 0;
     let mut differ = 0;
     let mut w = start();
     for i in 0..13440u32 {
         let t = grid_date(i);
         w = walk_to(w, t);
-        differ += numbered(t, w);
+        known += one_if(is_on(w, t));
+        differ += numbered(w, t);
     }
-    differ
+    Count { known, differ }
 }
 
 fn outside_that_differ() -> u64 {
@@ -237,14 +255,23 @@ fn outside_that_differ() -> u64 {
         + outside(2147483647)
 }
 
-fn say(what: &[u8], differ: u64) {
-    io::write_all(STDOUT_FILENO, what);
+fn write(text: &[u8]) {
+    io::write_all(STDOUT_FILENO, text);
+}
+
+fn say(differ: u64) {
     io::print_decimal(STDOUT_FILENO, differ);
-    io::write_all(STDOUT_FILENO, b" differ\n");
+    write(b" differ\n");
 }
 
 fn main() {
-    say(b"109209 days both ways: ", days_that_differ());
-    say(b"13440 dates of the grid: ", grid_that_differs());
-    say(b"8 days outside: ", outside_that_differ());
+    write(b"109209 days both ways: ");
+    say(days_that_differ());
+    let grid = grid_counted();
+    write(b"13440 dates of the grid, ");
+    io::print_decimal(STDOUT_FILENO, grid.known);
+    write(b" in the calendar: ");
+    say(grid.differ);
+    write(b"8 days outside: ");
+    say(outside_that_differ());
 }

@@ -4,10 +4,10 @@
 --   examples                            the calendar's ends and 01's examples
 --   saidDay-tells-apart, saidDate-tells-apart     two answers that say the same are the same
 -- Assumes nothing.
-use mathlib.Core.Path.{_≡_, refl, ap, sym, subst, _∙_}
-use mathlib.Core.Bool.{Bool, true, false, cond}
+use mathlib.Core.Path.{_≡_, refl, ap, sym, _∙_}
+use mathlib.Core.Bool.{Bool, true, false}
 use mathlib.Core.Logic.{⊎-elim}
-use Prim.Native.Nat.{ℕ, zero, suc, _+_, _-_, _≤_, _<_}
+use Prim.Native.Nat.{ℕ, zero, suc, _+_, _-_, _<_}
 use native.Mathlib.Nat.{eq-or-lt-of-le}
 use native.Mathlib.Omega.{arith}
 use lib.IntN.{ℤ, pos, negsuc, sucℤ, natAbs, _+ℤ_, _-ℤ_, sucℤ-+ℤ, -ℤ-+ℤ-cancel}
@@ -19,10 +19,10 @@ use Rattle.calendar.specs.declared.DayAnswer.{DayAnswer}
 use Rattle.calendar.specs.declared.DayAnswer.the-variants as day
 use Rattle.calendar.specs.declared.DateAnswer.{DateAnswer}
 use Rattle.calendar.specs.declared.DateAnswer.the-variants as date
-use Rattle.calendar.specs.Calendar.{lengthIn, monthLength, yearLength, isDate, daysTo, numberOf, dayOf, dateAt, isDay, daysInAll, dateOf, nextDate, lastDate, saidDay, saidDate}
-use Rattle.calendar.specs.Promises.{DateComesBack, DatesComeBack, DayComesBack, DaysComeBack, NextIsOneMore, NextDates, NextDays, Examples}
+use Rattle.calendar.specs.Calendar.{lengthIn, yearLength, isDate, daysTo, numberOf, dayOf, dateAt, isDay, daysInAll, dateOf, nextDate, lastDate, saidDay, saidDate}
+use Rattle.calendar.specs.Promises.{DatesComeBack, DaysComeBack, NextIsOneMore, NextDates, NextDays, Examples}
 use Rattle.calendar.proofs.Laws.Date.{days-to-small, date-of-days-to, is-date-at, days-to-date-at, next-date}
-use Rattle.calendar.proofs.Laws.Day.{days-to-zero, number-of, Index, index, index-is, is-day}
+use Rattle.calendar.proofs.Laws.Day.{days-to-zero, number-of, index, index-is, is-day}
 
 -- ---- date to day number and back
 

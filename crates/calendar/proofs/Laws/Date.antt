@@ -1,13 +1,15 @@
 -- Laws of `isDate`, `daysTo` and `dateAt` (specs/Calendar.antt): dates, and the days since 1 January 1901. A date is told by three numbers that
 -- count from 0: its year, its month in the year and its day in the month.
---   fields, is-date       what the test of a date says, and back
---   days-to               the days to a date of three numbers
---   date-found            the date at those days is that date
---   placed                the date at day i, and that it is a date of the calendar
+--   fields, of-fields                    what the test of a date says, and back
+--   three-of, is-three, is-date          every date is one of three such numbers, within their bounds, and back
+--   days-to, days-within, date-found     the days to it, that they are days of the calendar, and that its date is found from them
+--   year-falls .. days-back              the three numbers of day i
+--   days-to-small, date-of-days-to, is-date-at, days-to-date-at     the same of a date and of a day: each comes back from the other
+--   next-date                            the next date lies one day on
 -- Assumes nothing.
 use mathlib.Core.Path.{_≡_, refl, ap, sym, subst, _∙_}
 use mathlib.Core.Bool.{Bool, true, false, cond, _&&_}
-use Prim.Native.Nat.{ℕ, zero, suc, _+_, _-_, _≤_, _<_}
+use Prim.Native.Nat.{ℕ, suc, _+_, _-_, _≤_, _<_}
 use native.Mathlib.Numerals.{add-one}
 use native.Mathlib.Omega.{arith}
 use lib.Dec.{T, leb, ltb}
@@ -18,7 +20,7 @@ use Rattle.calendar.specs.declared.Date.{Date}
 use Rattle.calendar.specs.Calendar.{leap, monthLength, yearLength, isDate, daysTo, yearAt, dayInYear, monthAt, dateAt, daysInAll, nextDate}
 use Rattle.calendar.proofs.Laws.Spans.{Falls, before-first, before-next, before-grows, before-orders, span-found, span-falls, span-within}
 use Rattle.calendar.proofs.Laws.Month.{month}
-use Rattle.calendar.proofs.Laws.Year.{year-begins, year-length}
+use Rattle.calendar.proofs.Laws.Year.{year-length, years-end}
 
 -- ---- what the test of a date says
 
@@ -116,10 +118,6 @@ is-three t e =
     rw (year-there, month-there, day-there)
 
 -- ---- the date at day i
-
--- the calendar's years have 109,209 days
-years-end : before yearLength 299 ≡ daysInAll
-years-end = year-begins 299
 
 module _ (k m d : ℕ) (h : Three k m d) where
   in-its-month : Falls (monthLength (1901 + k)) (before (monthLength (1901 + k)) m + d) m

@@ -7,12 +7,11 @@
 --   day-fits          which a signed 32-bit number holds
 -- Assumes nothing.
 use mathlib.Core.Path.{_≡_, refl, ap, sym, subst, _∙_}
-use mathlib.Core.Bool.{Bool, true, false, cond, _&&_}
-use Prim.Native.Nat.{ℕ, suc, _+_, _-_, _^_, _≤_, _<_}
+use mathlib.Core.Bool.{Bool, true, false, cond}
+use Prim.Native.Nat.{ℕ, suc, _+_, _-_, _≤_, _<_}
 use native.Mathlib.Omega.{arith}
 use lib.Dec.{T, leb, ltb}
 use lib.IntN.{ℤ, pos, negsuc, _+ℤ_, _-ℤ_, +ℤ-negℤ-cancel}
-use lib.Signed.{mag, leZ}
 use borrow.Author.Tests.{ltb-true, ltb-false, le-ltb, le-leb}
 use mir.Facts.{and-yes, leb-yes}
 use mir.Syntax.{w32}

@@ -1,9 +1,9 @@
 -- Laws of a year's months, leap years and others alike (`lengthIn`, specs/Calendar.antt): one test of every month, which antt computes, and what
 -- follows from it at each.
---   month                                of month m: the table's days before it, within which bounds they lie, and that it is short
+--   month                                of month m: the table's days before it, the bounds on these, and its length's
 --   month-guessed, month-after-guess     so the month of day j is j / 32, or the next if that one begins by then
 -- Assumes nothing.
-use mathlib.Core.Path.{_≡_, refl, ap, sym, subst, _∙_}
+use mathlib.Core.Path.{_≡_, subst}
 use mathlib.Core.Bool.{Bool, true, false, cond, _&&_}
 use mathlib.Core.Logic.{⊎-elim}
 use mathlib.Core.List.{List, [], _∷_}
@@ -16,7 +16,7 @@ use lib.ListN.{getD}
 use mir.Facts.{and-yes, eqb-yes, leb-yes}
 use Rattle.calendar.specs.Spans.{before, spanOf}
 use Rattle.calendar.specs.Calendar.{lengthIn}
-use Rattle.calendar.proofs.Laws.Spans.{Falls, before-orders, span-found}
+use Rattle.calendar.proofs.Laws.Spans.{before-orders, span-found}
 
 -- the table of the code: the days before each month of a year that is no leap year, and those of the year
 abbrev pub daysBefore : List ℕ
@@ -24,6 +24,8 @@ daysBefore = 0 ∷ 31 ∷ 59 ∷ 90 ∷ 120 ∷ 151 ∷ 181 ∷ 212 ∷ 243 ∷ 
 
 -- ---- the test
 
+-- of month m, or of the year's end at 12, in a leap year or not: the table is right there, the month begins by 32 days for each before it and
+-- at most 32 days earlier, and it has from 1 to 31 days
 unfoldable right : Bool → ℕ → Bool
 right l m =
     let days = before (lengthIn l) m in
@@ -65,11 +67,11 @@ month l m h =
     let by? = leb days (32 * m) in
     let after? = leb (32 * m) (days + 32) in
     let short? = leb (lengthIn l m) 31 in
-    let all = and-yes (begins? && by? && after? && short?) (leb 12 (m + lengthIn l m)) (at (right l) 13 (tested l) m (omega arith)) in
-    let four = and-yes (begins? && by? && after?) short? (all .0) in
+    let five = and-yes (begins? && by? && after? && short?) (leb 12 (m + lengthIn l m)) (at (right l) 13 (tested l) m (omega arith)) in
+    let four = and-yes (begins? && by? && after?) short? (five .0) in
     let three = and-yes (begins? && by?) after? (four .0) in
     let two = and-yes begins? by? (three .0) in
-    record { begins = eqb-yes (two .0); by = leb-yes (two .1); after = leb-yes (three .1); short = leb-yes (four .1); some = leb-yes (all .1) }
+    record { begins = eqb-yes (two .0); by = leb-yes (two .1); after = leb-yes (three .1); short = leb-yes (four .1); some = leb-yes (five .1) }
 
 -- ---- the inverse: the month of a day
 

@@ -1,10 +1,8 @@
 -- `calendar::month::length_of` meets its contract: its table is the definition's, and the leap day is added in the same case.
 -- Assumes nothing.
-use Prim.Native.Nat.{_+_}
-use lib.ListN.{getD}
 use native.Mathlib.Omega.{arith}
 use borrow.Author.Needs.{needs}
-use Rattle.calendar.specs.Calendar.{leap, monthLengths, lengthIn}
+use Rattle.calendar.specs.Calendar.{leap, lengthIn}
 use Rattle.calendar.proofs.Laws.Month.{month}
 use Rattle.calendar.proofs.month.length_of.Statement.{statement}
 use Rattle.calendar.proofs.month.length_of.Tie as tie

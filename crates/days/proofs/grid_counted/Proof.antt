@@ -1,15 +1,15 @@
--- `days::grid_that_differs` is safe and ends: a turn counts at most one answer that differs.
+-- `days::grid_counted` is safe and ends: a turn adds at most one to each count.
 -- Assumes nothing.
 use Prim.Native.Nat.{_≤_, _-_}
 use borrow.Author.Needs.{needs}
-use Rattle.days.proofs.grid_that_differs.Statement.{statement}
-use Rattle.days.proofs.grid_that_differs.Tie as tie
+use Rattle.days.proofs.grid_counted.Statement.{statement}
+use Rattle.days.proofs.grid_counted.Tie as tie
 
 abbrev Inv-loop : tie.InvT-loop
-Inv-loop differ₀ w₀ i₀ differ w i = (differ ≤ i) × (i ≤ 13440)
+Inv-loop known₀ differ₀ w₀ i₀ known differ w i = (known ≤ i) × (differ ≤ i) × (i ≤ 13440)
 
 abbrev μ-loop : tie.MeasureT-loop
-μ-loop differ₀ w₀ i₀ differ w i = 13440 - i
+μ-loop known₀ differ₀ w₀ i₀ known differ w i = 13440 - i
 
 start-requires : tie.Need-start-requires Inv-loop μ-loop
 start-requires c κs = search needs
@@ -22,6 +22,15 @@ grid-date-requires c κs = search needs
 
 walk-to-requires : tie.Need-walk-to-requires Inv-loop μ-loop
 walk-to-requires c κs = search needs
+
+is-on-requires : tie.Need-is-on-requires Inv-loop μ-loop
+is-on-requires c κs = search needs
+
+one-if-requires : tie.Need-one-if-requires Inv-loop μ-loop
+one-if-requires c κs = search needs
+
+add-known : tie.Need-add-known Inv-loop μ-loop
+add-known c = search needs
 
 numbered-requires : tie.Need-numbered-requires Inv-loop μ-loop
 numbered-requires c κs = search needs
@@ -41,8 +50,8 @@ loop-again c = search needs
 returns : tie.Need-returns Inv-loop μ-loop
 returns c = search needs
 
-pub grid-that-differs-spec : {M : Type 1} → statement M
-grid-that-differs-spec =
+pub grid-counted-spec : {M : Type 1} → statement M
+grid-counted-spec =
     tie.close
     (tie.spec
     Inv-loop
@@ -51,6 +60,9 @@ grid-that-differs-spec =
     loop-holds
     grid-date-requires
     walk-to-requires
+    is-on-requires
+    one-if-requires
+    add-known
     numbered-requires
     add-differ
     add-i
