@@ -6,7 +6,7 @@
 ghost use mathlib.Core.Path.{_≡_};
 ghost use mathlib.Core.Bool.{true};
 ghost use Prim.Native.Nat.{_<_};
-ghost use Rattle.calendar.specs.Calendar.{isDate, daysTo, dateAt, daysInAll, dayOf, dateOf, saidDay, saidDate};
+ghost use Rattle.calendar.specs.Calendar.{isDate, isDay, daysTo, dateAt, daysInAll, dayOf, dateOf, saidDay, saidDate};
 use month::days_before_month;
 use month::length_of;
 use month::month_of;
@@ -48,7 +48,7 @@ impl Date {
     pub fn of_day(day: i32) -> DateAnswer
         ensures { λ r. ⌜ saidDate r ≡ dateOf day ⌝ }
     {
-        if (-25202 <= day) & (day <= 84006) {
+        if is_day(day) {
             return DateAnswer::Date(Date::at((day + 25202) as u32));
         }
         DateAnswer::Refused(22)
@@ -94,4 +94,11 @@ impl Date {
             day: day + 1,
         }
     }
+}
+
+// 01, "Calendar": "days -25,202 to 84,006".
+fn is_day(day: i32) -> bool
+    ensures { λ r. ⌜ r ≡ isDay day ⌝ }
+{
+    (-25202 <= day) & (day <= 84006)
 }

@@ -16,6 +16,13 @@ is-date-requires c κs = search needs
 days-to-requires : tie.Need-days-to-requires
 days-to-requires c κs = sym (c .before .is-date .ensures) ∙ c .if1 .taken
 
+returns : tie.Need-returns
+unfolding dayOf
+returns c =
+    let t = c .before .before .before .args .self in
+    let e = sym (c .before .before .is-date .ensures) ∙ c .before .if1 .taken in
+    rw (e, number-of t, c .days-to .ensures, number-computed (daysTo t) (days-to-small t e))
+
 cast-t4 : tie.Need-cast-t4
 cast-t4 c =
     let e = sym (c .before .before .is-date .ensures) ∙ c .before .if1 .taken in
@@ -26,13 +33,6 @@ sub-t5 c =
     let t = c .before .before .before .args .self in
     let e = sym (c .before .before .is-date .ensures) ∙ c .before .if1 .taken in
     rw (c .days-to .ensures) (number-fits (daysTo t) (days-to-small t e))
-
-returns : tie.Need-returns
-unfolding dayOf
-returns c =
-    let t = c .before .before .before .args .self in
-    let e = sym (c .before .before .is-date .ensures) ∙ c .before .if1 .taken in
-    rw (e, number-of t, c .days-to .ensures, number-computed (daysTo t) (days-to-small t e))
 
 returns-2 : tie.Need-returns-2
 unfolding dayOf
