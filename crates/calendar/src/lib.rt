@@ -23,11 +23,13 @@ pub struct Date {
     pub day: u8,
 }
 
+// What `number` answers: the day's number, or 22.
 pub enum DayAnswer {
     Day(i32),
     Refused(u8),
 }
 
+// What `of_day` answers: the day's date, or 22.
 pub enum DateAnswer {
     Date(Date),
     Refused(u8),
@@ -54,6 +56,7 @@ impl Date {
         DateAnswer::Refused(22)
     }
 
+    // Whether the year, the month and the day are the calendar's.
     fn is_date(self) -> bool
         ensures { λ r. ⌜ r ≡ isDate self ⌝ }
     {
