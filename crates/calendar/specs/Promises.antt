@@ -1,0 +1,49 @@
+-- What is promised of the calendar's definitions. 01, "Calendar": "Date to day number and back undo each other on this range."
+-- And that the numbers are those of days that follow one another: "Day 0 is 1 January 1970 and day -1 the day before."
+-- proofs/Laws/Calendar.antt proves each. Assumes nothing.
+use mathlib.Core.Path.{_≡_}
+use mathlib.Core.Bool.{true}
+use lib.IntN.{ℤ, pos, negsuc, sucℤ}
+use Rattle.content.specs.Answer.{refused, given}
+use Rattle.calendar.specs.declared.Date.{Date}
+use Rattle.calendar.specs.Calendar.{isDate, isDay, dayZero, numberOf, dayOf, dateOf, nextDate, lastDate}
+
+-- date to day number and back: a date has a day's number, and that day's date is the date
+pub record DateComesBack (t : Date) : Type 0 where
+  pub numbered : dayOf t ≡ given (numberOf t)
+  pub in-range : isDay (numberOf t) ≡ true
+  pub back : dateOf (numberOf t) ≡ given t
+
+abbrev pub DatesComeBack : Type 0
+DatesComeBack = (t : Date) → isDate t ≡ true → DateComesBack t
+
+-- day number to date and back: a day has a date, and that date's number is the day's
+pub record DayComesBack (z : ℤ) : Type 0 where
+  pub date : Date
+  pub dated : dateOf z ≡ given date
+  pub in-range : isDate date ≡ true
+  pub back : dayOf date ≡ given z
+
+abbrev pub DaysComeBack : Type 0
+DaysComeBack = (z : ℤ) → isDay z ≡ true → DayComesBack z
+
+-- the date after a date has the next number, unless the date is the last
+pub record NextIsOneMore (t : Date) : Type 0 where
+  pub in-range : isDate (nextDate t) ≡ true
+  pub one-more : numberOf (nextDate t) ≡ sucℤ (numberOf t)
+
+abbrev pub NextDates : Type 0
+NextDates = (t : Date) → isDate t ≡ true → (t ≡ lastDate → ⊥) → NextIsOneMore t
+
+-- and the day after a day has the next date
+abbrev pub NextDays : Type 0
+NextDays = (z : ℤ) (t : Date) → dateOf z ≡ given t → isDay (sucℤ z) ≡ true → dateOf (sucℤ z) ≡ given (nextDate t)
+
+-- the calendar's two ends and what lies past them, day 0, and the day before it
+pub record Ends : Type 0 where
+  pub first : dayOf (record { year = 1901; month = 1; day = 1 }) ≡ given (negsuc 25201)
+  pub last : dayOf lastDate ≡ given (pos 84006)
+  pub before-first : dateOf (negsuc 25202) ≡ refused 22
+  pub after-last : dateOf (pos 84007) ≡ refused 22
+  pub zero : dateOf (pos 0) ≡ given dayZero
+  pub before-zero : dateOf (negsuc 0) ≡ given (record { year = 1969; month = 12; day = 31 })
