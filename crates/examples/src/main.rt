@@ -1,0 +1,216 @@
+// The examples of document 01 for what a cell holds, the calendar and sheets, run by the code and
+// printed; the file stdout beside src/ is what they must print. Those marked (P) are proved of the
+// definitions too, all by one statement: specs/Examples.antt.
+use calendar::Date;
+use calendar::DateAnswer;
+use calendar::DayAnswer;
+use content::Content;
+use content::Standing;
+use sheet::Entry;
+use sheet::Numbers;
+use sheet::Reading;
+use writer::Written;
+
+fn say(text: &[u8]) {
+    io::write_all(1, text);
+}
+
+fn say_number(n: u64) {
+    io::print_decimal(1, n);
+}
+
+fn say_signed(z: i64) {
+    if z < 0 {
+        say(b"-");
+    }
+    say_number(numbers::magnitude(z));
+}
+
+fn say_day(day: i32) {
+    say_signed(day as i64);
+}
+
+fn say_refused(number: u8) {
+    say(b"refused ");
+    say_number(number as u64);
+    say(b"\n");
+}
+
+fn say_content(c: Content) {
+    match c {
+        Content::Blank => say(b"blank"),
+        Content::Open => say(b"open"),
+        Content::Day(day) => {
+            say(b"day ");
+            say_day(day);
+        }
+    }
+}
+
+// " 01 02 FF"
+fn say_bytes(s: &[u8]) {
+    let mut i = 0;
+    while i < s.len() {
+        say_byte(s[i]);
+        i += 1;
+    }
+}
+
+fn say_byte(b: u8) {
+    let text = [b' ', digit(b / 16), digit(b % 16)];
+    say(&text);
+}
+
+fn digit(n: u8) -> u8 {
+    if n < 10 {
+        b'0' + n
+    } else {
+        b'A' + (n - 10) % 16
+    }
+}
+
+// Example 7: the standing of a content on a day.
+fn standing(c: Content, today: i32) {
+    say_content(c);
+    say(b" on day ");
+    say_day(today);
+    say(b": ");
+    match c.standing(today) {
+        Standing::Unknown => say(b"unknown\n"),
+        Standing::Open => say(b"open\n"),
+        Standing::Left(n) => {
+            say_signed(n);
+            say(b" left\n");
+        }
+    }
+}
+
+// Example 8: a date's day, and the date of that day.
+fn date(year: u16, month: u8, day: u8) {
+    let t = Date { year, month, day };
+    say_date(t);
+    say(b": ");
+    match t.number() {
+        DayAnswer::Day(z) => {
+            say(b"day ");
+            say_day(z);
+            say(b"\n");
+        }
+        DayAnswer::Refused(number) => say_refused(number),
+    }
+}
+
+fn say_date(t: Date) {
+    say_number(t.year as u64);
+    say_two_digits(t.month);
+    say_two_digits(t.day);
+}
+
+fn say_two_digits(n: u8) {
+    say(b"-");
+    if n < 10 {
+        say(b"0");
+    }
+    say_number(n as u64);
+}
+
+fn day(z: i32) {
+    say(b"day ");
+    say_day(z);
+    say(b": ");
+    match Date::of_day(z) {
+        DateAnswer::Date(t) => {
+            say_date(t);
+            say(b"\n");
+        }
+        DateAnswer::Refused(number) => say_refused(number),
+    }
+}
+
+// Examples 1 to 3 and 9: the sheet that desk 0 of 2 sends at turn 0, with so many entries, of which
+// the first has this content in cell 1, written into the buffer and read back.
+fn sheet_of(buf: &mut [u8], entries: u8, c: Content, cells: u8) {
+    let n = Numbers {
+        entries,
+        sender: 0,
+        desks: 2,
+        cells,
+        turn: 0,
+    };
+    if entries == 0 {
+        say(b"nothing pending");
+    } else {
+        say(b"cell 1 ");
+        say_content(c);
+    }
+    say(b", of ");
+    say_number(cells as u64);
+    say(b" cells, into ");
+    say_number(buf.len() as u64);
+    say(b" bytes:");
+    write_into(buf, n, Entry::of(1, c));
+}
+
+fn write_into(buf: &mut [u8], n: Numbers, e: Entry) {
+    match writer::write(buf, n, [e; 64]) {
+        Written::Sheet(len) => {
+            if len <= buf.len() {
+                say_bytes(&buf[..len]);
+                read_back(&buf[..len]);
+            }
+        }
+        Written::Refused(number) => {
+            say(b" ");
+            say_refused(number);
+        }
+    }
+}
+
+fn read_back(s: &[u8]) {
+    match sheet::read(s) {
+        Reading::Good(n) => {
+            say(b"\n  reads back: desk ");
+            say_number(n.sender as u64);
+            say(b" of ");
+            say_number(n.desks as u64);
+            say(b", turn ");
+            say_number(n.turn as u64);
+            if 0 < n.entries {
+                let e = sheet::entry_at(s, 0);
+                say(b", cell ");
+                say_number(e.cell as u64);
+                say(b" ");
+                say_content(e.content());
+            }
+            say(b"\n");
+        }
+        Reading::Refused(number) => say_refused(number),
+    }
+}
+
+fn main() {
+    standing(Content::Day(0), 0);
+    standing(Content::Day(0), 1);
+    standing(Content::Blank, 1);
+    standing(Content::Open, 1);
+    standing(Content::Day(2147483647), -2147483648);
+    date(1970, 1, 1);
+    date(2000, 1, 1);
+    date(2000, 2, 29);
+    date(1901, 2, 29);
+    day(-1);
+    day(-25202);
+    day(84007);
+    let mut room = [0u8; 24];
+    sheet_of(&mut room, 1, Content::Day(0), 2);
+    sheet_of(&mut room, 0, Content::Blank, 2);
+    sheet_of(&mut room, 1, Content::Day(-1), 2);
+    sheet_of(&mut room, 1, Content::Open, 2);
+    sheet_of(&mut room, 1, Content::Blank, 2);
+    sheet_of(&mut room, 1, Content::Open, 1);
+    sheet_of(&mut room, 2, Content::Open, 2);
+    let mut eleven = [0u8; 11];
+    sheet_of(&mut eleven, 0, Content::Blank, 2);
+    let mut twelve = [0u8; 12];
+    sheet_of(&mut twelve, 0, Content::Blank, 2);
+}
