@@ -143,6 +143,9 @@ fn sheet_of(buf: &mut [u8], entries: u8, c: Content, cells: u8) {
         say(b"cell 1 ");
         say_content(c);
     }
+    if 1 < entries {
+        say(b" twice");
+    }
     say(b", of ");
     say_number(cells as u64);
     say(b" cells, into ");
