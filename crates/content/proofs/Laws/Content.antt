@@ -1,8 +1,7 @@
 -- Laws of `kindOf`, `dayOf` and `contentOf` (specs/Content.antt): "empty is not zero and not yesterday".
 --   content-again                          a content's kind and day make the content again, so its two numbers tell it from every other
 --   open-is-kind-1, day-is-kind-2          kind 1 is never a day and kind 2 never open
---   blank-is-no-kind-of-entry              neither kind of an entry is blank
---   blank-is-not-open, blank-is-no-day, open-is-no-day
+--   blank-is-not-open, blank-is-no-day, open-is-no-day, kind-1-is-never-a-day    the three never meet
 -- Assumes nothing.
 use mathlib.Core.Path.{_≡_, refl}
 use Prim.Native.Nat.{ℕ}

@@ -3,8 +3,6 @@
 use Rattle.content.proofs.Days.{wide-fits, diff-fits, diff-back}
 use Rattle.content.proofs.days_left.Statement.{statement}
 use Rattle.content.proofs.days_left.Tie as tie
-use Rattle.content.proofs.days_left.Reads as reads
-use Rattle.content.proofs.days_left.Lts as lts
 
 cast-result : tie.Need-cast-result
 cast-result c = wide-fits (c .args .day) (c .fits .day .sfits)

@@ -5,9 +5,6 @@ use lib.ListN.{length}
 use borrow.Author.Needs.{needs}
 use Rattle.examples.proofs.say_bytes.Statement.{statement}
 use Rattle.examples.proofs.say_bytes.Tie as tie
-use Rattle.examples.proofs.say_bytes.Reads as reads
-use Rattle.examples.proofs.say_bytes.Lts as lts
-use Rattle.examples.proofs.say_byte.Reads as say-byte-reads
 
 abbrev Inv-loop : tie.InvT-loop
 Inv-loop s i₀ i = i ≤ length s

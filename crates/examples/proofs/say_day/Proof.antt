@@ -5,9 +5,6 @@ use mir.Facts.{toZ-ofZ, sfits-widen}
 use borrow.Author.Needs.{needs}
 use Rattle.examples.proofs.say_day.Statement.{statement}
 use Rattle.examples.proofs.say_day.Tie as tie
-use Rattle.examples.proofs.say_day.Reads as reads
-use Rattle.examples.proofs.say_day.Lts as lts
-use Rattle.examples.proofs.say_signed.Reads as say-signed-reads
 
 cast-say-signed : tie.Need-cast-say-signed
 cast-say-signed c = rw (toZ-ofZ (c .fits .day)) (sfits-widen {w = w32} {w′ = w64} tt (c .fits .day))

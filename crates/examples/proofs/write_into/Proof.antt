@@ -5,13 +5,6 @@ use lib.Seq.{length-take-le}
 use borrow.Author.Needs.{needs}
 use Rattle.examples.proofs.write_into.Statement.{statement}
 use Rattle.examples.proofs.write_into.Tie as tie
-use Rattle.examples.proofs.write_into.Reads as reads
-use Rattle.examples.proofs.write_into.Lts as lts
-use Rattle.examples.proofs.read_back.Reads as read-back-reads
-use Rattle.examples.proofs.say.Reads as say-reads
-use Rattle.examples.proofs.say_bytes.Reads as say-bytes-reads
-use Rattle.examples.proofs.say_refused.Reads as say-refused-reads
-use Rattle.writer.proofs.write.Reads as write-reads
 
 write-requires : tie.Need-write-requires
 write-requires c κs = search needs

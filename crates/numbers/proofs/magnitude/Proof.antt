@@ -9,8 +9,6 @@ use Rattle.numbers.proofs.Signs.{Plus, plus, Minus, minus}
 use borrow.Author.Needs.{needs}
 use Rattle.numbers.proofs.magnitude.Statement.{statement}
 use Rattle.numbers.proofs.magnitude.Tie as tie
-use Rattle.numbers.proofs.magnitude.Reads as reads
-use Rattle.numbers.proofs.magnitude.Lts as lts
 
 up : (c : tie.Then1) → Plus w64 (c .before .args .z)
 up c = plus w64 tt _ (c .before .fits .z) (rw (toZ-ofZ (c .before .fits .z)) at (c .if1 .taken))

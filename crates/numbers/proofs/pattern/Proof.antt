@@ -10,8 +10,6 @@ use mir.Facts.{toZ-ofZ, toZ-pos}
 use Rattle.numbers.proofs.Signs.{plus, minus, Plus, Minus}
 use Rattle.numbers.proofs.pattern.Statement.{statement}
 use Rattle.numbers.proofs.pattern.Tie as tie
-use Rattle.numbers.proofs.pattern.Reads as reads
-use Rattle.numbers.proofs.pattern.Lts as lts
 
 up : (c : tie.Then1) → Plus w32 (c .before .args .z)
 up c = plus w32 tt _ (c .before .fits .z) (rw (toZ-ofZ (c .before .fits .z)) at (c .if1 .taken))

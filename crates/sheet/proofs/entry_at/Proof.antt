@@ -6,27 +6,19 @@ use mathlib.Core.Path.{_∙_}
 use borrow.Author.Needs.{needs}
 use Rattle.sheet.proofs.entry_at.Statement.{statement}
 use Rattle.sheet.proofs.entry_at.Tie as tie
-use Rattle.sheet.proofs.entry_at.Reads as reads
-use Rattle.sheet.proofs.entry_at.Lts as lts
-use Rattle.sheet.proofs.bytes.entry_from.Reads as entry-from-reads
 
--- src/lib.rt:98:14
 mul-at : tie.Need-mul-at
 mul-at c = search needs
 
--- src/lib.rt:99:18
 add-if1 : tie.Need-add-if1
 add-if1 c = search needs
 
--- src/lib.rt:100:9
 returns : tie.Need-returns
 returns c = rw (lt-leb _ _ (c .if1 .taken))
 
--- src/lib.rt:106:5
 entry-from-requires : tie.Need-entry-from-requires
 entry-from-requires c κs = search needs
 
--- src/lib.rt:95:1
 returns-2 : tie.Need-returns-2
 returns-2 c = c .entry-from .ensures ∙ rw (le-leb _ _ (c .before .if1 .left))
 

@@ -4,10 +4,6 @@ use mathlib.Core.Path.{_∙_}
 use borrow.Author.Needs.{needs}
 use Rattle.writer.proofs.put_entry.Statement.{statement}
 use Rattle.writer.proofs.put_entry.Tie as tie
-use Rattle.writer.proofs.put_entry.Reads as reads
-use Rattle.writer.proofs.put_entry.Lts as lts
-use Rattle.numbers.proofs.u32_bytes.Reads as u32-bytes-reads
-use Rattle.writer.proofs.lay.put.Reads as put-reads
 
 u32-bytes-requires : tie.Need-u32-bytes-requires
 u32-bytes-requires c κs = search needs

@@ -4,11 +4,6 @@ use mathlib.Core.Path.{_∙_}
 use borrow.Author.Needs.{needs}
 use Rattle.writer.proofs.put_trailer.Statement.{statement}
 use Rattle.writer.proofs.put_trailer.Tie as tie
-use Rattle.writer.proofs.put_trailer.Reads as reads
-use Rattle.writer.proofs.put_trailer.Lts as lts
-use Rattle.numbers.proofs.u16_bytes.Reads as u16-bytes-reads
-use Rattle.numbers.proofs.u32_bytes.Reads as u32-bytes-reads
-use Rattle.writer.proofs.lay.put.Reads as put-reads
 
 u16-bytes-requires : tie.Need-u16-bytes-requires
 u16-bytes-requires c κs = search needs

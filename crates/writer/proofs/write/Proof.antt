@@ -4,13 +4,6 @@ use Rattle.writer.proofs.Laws.Writing.{writings}
 use borrow.Author.Needs.{needs}
 use Rattle.writer.proofs.write.Statement.{statement}
 use Rattle.writer.proofs.write.Tie as tie
-use Rattle.writer.proofs.write.Reads as reads
-use Rattle.writer.proofs.write.Lts as lts
-use Rattle.sheet.proofs.good_trailer.Reads as good-trailer-reads
-use Rattle.writer.proofs.given.good_entries.Reads as good-entries-reads
-use Rattle.writer.proofs.given.put_entries.Reads as put-entries-reads
-use Rattle.writer.proofs.put_trailer.Reads as put-trailer-reads
-use Rattle.writer.proofs.trailer_for.Reads as trailer-for-reads
 
 cast-count : tie.Need-cast-count
 cast-count c = search needs

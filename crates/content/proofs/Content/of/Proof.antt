@@ -1,19 +1,16 @@
+-- `Content::of` meets its contract: its tests are the definition's.
+-- Assumes nothing.
 use borrow.Author.Tests.{eq-eqb, ne-eqb}
 use mir.Facts.{toZ-ofZ}
 use Rattle.content.proofs.Content.of.Statement.{statement}
 use Rattle.content.proofs.Content.of.Tie as tie
-use Rattle.content.proofs.Content.of.Reads as reads
-use Rattle.content.proofs.Content.of.Lts as lts
 
--- src/lib.rt:68:13
 returns : tie.Need-returns
 returns c = simp (eq-eqb _ _ (c .if1 .taken))
 
--- src/lib.rt:71:13
 returns-2 : tie.Need-returns-2
 returns-2 c = simp (ne-eqb _ _ (c .before .if1 .left), eq-eqb _ _ (c .if2 .taken), toZ-ofZ (c .before .before .fits .day))
 
--- src/lib.rt:64:5
 returns-3 : tie.Need-returns-3
 returns-3 c = simp (ne-eqb _ _ (c .before .if1 .left), ne-eqb _ _ (c .if2 .left))
 

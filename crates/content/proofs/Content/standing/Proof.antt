@@ -11,9 +11,6 @@ use Rattle.content.proofs.Days.{back}
 use borrow.Author.Needs.{needs}
 use Rattle.content.proofs.Content.standing.Statement.{statement}
 use Rattle.content.proofs.Content.standing.Tie as tie
-use Rattle.content.proofs.Content.standing.Reads as reads
-use Rattle.content.proofs.Content.standing.Lts as lts
-use Rattle.content.proofs.days_left.Reads as days-left-reads
 
 enum-told : tie.Need-enum-told
 enum-told c = search needs

@@ -1,13 +1,10 @@
+-- `Entry::of` meets its contract: the day that `Content::day` gives is the one that `pattern` takes.
+-- Assumes nothing.
 use mir.Syntax.{w32}
 use mir.Facts.{toZ-ofZ}
 use borrow.Author.Needs.{needs}
 use Rattle.sheet.proofs.Entry.of.Statement.{statement}
 use Rattle.sheet.proofs.Entry.of.Tie as tie
-use Rattle.sheet.proofs.Entry.of.Reads as reads
-use Rattle.sheet.proofs.Entry.of.Lts as lts
-use Rattle.content.proofs.Content.day.Reads as day-reads
-use Rattle.content.proofs.Content.kind.Reads as kind-reads
-use Rattle.numbers.proofs.pattern.Reads as pattern-reads
 
 kind-requires : tie.Need-kind-requires
 kind-requires c κs = search needs

@@ -5,59 +5,43 @@ use native.Mathlib.Nat.{add-zero}
 use borrow.Author.Needs.{needs}
 use Rattle.sheet.proofs.bytes.entry_from.Statement.{statement}
 use Rattle.sheet.proofs.bytes.entry_from.Tie as tie
-use Rattle.sheet.proofs.bytes.entry_from.Reads as reads
-use Rattle.sheet.proofs.bytes.entry_from.Lts as lts
-use Rattle.numbers.proofs.u32_of.Reads as u32-of-reads
 
--- src/bytes.rt:16:15
 shared-slice-read-t4 : tie.Need-shared-slice-read-t4
 shared-slice-read-t4 c = search needs
 
--- src/bytes.rt:17:17
 add-t5 : tie.Need-add-t5
 add-t5 c = search needs
 
--- src/bytes.rt:17:15
 shared-slice-read-t7 : tie.Need-shared-slice-read-t7
 shared-slice-read-t7 c = search needs
 
--- src/bytes.rt:18:32
 add-u32-of : tie.Need-add-u32-of
 add-u32-of c = search needs
 
--- src/bytes.rt:18:30
 shared-slice-read-u32-of : tie.Need-shared-slice-read-u32-of
 shared-slice-read-u32-of c = search needs
 
--- src/bytes.rt:18:43
 add-u32-of-2 : tie.Need-add-u32-of-2
 add-u32-of-2 c = search needs
 
--- src/bytes.rt:18:41
 shared-slice-read-u32-of-2 : tie.Need-shared-slice-read-u32-of-2
 shared-slice-read-u32-of-2 c = search needs
 
--- src/bytes.rt:18:54
 add-u32-of-3 : tie.Need-add-u32-of-3
 add-u32-of-3 c = search needs
 
--- src/bytes.rt:18:52
 shared-slice-read-u32-of-3 : tie.Need-shared-slice-read-u32-of-3
 shared-slice-read-u32-of-3 c = search needs
 
--- src/bytes.rt:18:65
 add-u32-of-4 : tie.Need-add-u32-of-4
 add-u32-of-4 c = search needs
 
--- src/bytes.rt:18:63
 shared-slice-read-u32-of-4 : tie.Need-shared-slice-read-u32-of-4
 shared-slice-read-u32-of-4 c = search needs
 
--- src/bytes.rt:18:14
 u32-of-requires : tie.Need-u32-of-requires
 u32-of-requires c κs = search needs
 
--- src/bytes.rt:11:1
 returns : tie.Need-returns
 returns c = rw (c .u32-of .ensures) (simp (getD-drop, add-zero))
 

@@ -5,112 +5,82 @@ use native.Mathlib.Nat.{add-zero}
 use borrow.Author.Needs.{needs}
 use Rattle.sheet.proofs.bytes.trailer_at.Statement.{statement}
 use Rattle.sheet.proofs.bytes.trailer_at.Tie as tie
-use Rattle.sheet.proofs.bytes.trailer_at.Reads as reads
-use Rattle.sheet.proofs.bytes.trailer_at.Lts as lts
-use Rattle.numbers.proofs.u16_of.Reads as u16-of-reads
-use Rattle.numbers.proofs.u32_of.Reads as u32-of-reads
 
--- src/bytes.rt:28:35
 shared-slice-read-u16-of : tie.Need-shared-slice-read-u16-of
 shared-slice-read-u16-of c = search needs
 
--- src/bytes.rt:28:44
 add-u16-of : tie.Need-add-u16-of
 add-u16-of c = search needs
 
--- src/bytes.rt:28:42
 shared-slice-read-u16-of-2 : tie.Need-shared-slice-read-u16-of-2
 shared-slice-read-u16-of-2 c = search needs
 
--- src/bytes.rt:28:19
 u16-of-requires : tie.Need-u16-of-requires
 u16-of-requires c κs = search needs
 
--- src/bytes.rt:29:20
 add-t9 : tie.Need-add-t9
 add-t9 c = search needs
 
--- src/bytes.rt:29:18
 shared-slice-read-t11 : tie.Need-shared-slice-read-t11
 shared-slice-read-t11 c = search needs
 
--- src/bytes.rt:30:19
 add-t12 : tie.Need-add-t12
 add-t12 c = search needs
 
--- src/bytes.rt:30:17
 shared-slice-read-t14 : tie.Need-shared-slice-read-t14
 shared-slice-read-t14 c = search needs
 
--- src/bytes.rt:31:18
 add-t15 : tie.Need-add-t15
 add-t15 c = search needs
 
--- src/bytes.rt:31:16
 shared-slice-read-t17 : tie.Need-shared-slice-read-t17
 shared-slice-read-t17 c = search needs
 
--- src/bytes.rt:32:18
 add-t18 : tie.Need-add-t18
 add-t18 c = search needs
 
--- src/bytes.rt:32:16
 shared-slice-read-t20 : tie.Need-shared-slice-read-t20
 shared-slice-read-t20 c = search needs
 
--- src/bytes.rt:33:18
 add-t21 : tie.Need-add-t21
 add-t21 c = search needs
 
--- src/bytes.rt:33:16
 shared-slice-read-t23 : tie.Need-shared-slice-read-t23
 shared-slice-read-t23 c = search needs
 
--- src/bytes.rt:34:18
 add-t24 : tie.Need-add-t24
 add-t24 c = search needs
 
--- src/bytes.rt:34:16
 shared-slice-read-t26 : tie.Need-shared-slice-read-t26
 shared-slice-read-t26 c = search needs
 
--- src/bytes.rt:35:33
 add-u32-of : tie.Need-add-u32-of
 add-u32-of c = search needs
 
--- src/bytes.rt:35:31
 shared-slice-read-u32-of : tie.Need-shared-slice-read-u32-of
 shared-slice-read-u32-of c = search needs
 
--- src/bytes.rt:35:44
 add-u32-of-2 : tie.Need-add-u32-of-2
 add-u32-of-2 c = search needs
 
--- src/bytes.rt:35:42
 shared-slice-read-u32-of-2 : tie.Need-shared-slice-read-u32-of-2
 shared-slice-read-u32-of-2 c = search needs
 
--- src/bytes.rt:35:55
 add-u32-of-3 : tie.Need-add-u32-of-3
 add-u32-of-3 c = search needs
 
--- src/bytes.rt:35:53
 shared-slice-read-u32-of-3 : tie.Need-shared-slice-read-u32-of-3
 shared-slice-read-u32-of-3 c = search needs
 
--- src/bytes.rt:35:67
 add-u32-of-4 : tie.Need-add-u32-of-4
 add-u32-of-4 c = search needs
 
--- src/bytes.rt:35:65
 shared-slice-read-u32-of-4 : tie.Need-shared-slice-read-u32-of-4
 shared-slice-read-u32-of-4 c = search needs
 
--- src/bytes.rt:35:15
 u32-of-requires : tie.Need-u32-of-requires
 u32-of-requires c κs = search needs
 
--- src/bytes.rt:23:1
 returns : tie.Need-returns
 returns c = rw (c .u32-of .ensures, c .before .before .before .before .before .before .before .before .before .before .before .u16-of .ensures) (simp (getD-drop, add-zero))
 

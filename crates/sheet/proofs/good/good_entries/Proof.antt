@@ -6,10 +6,6 @@ use Rattle.sheet.specs.Layout.{entriesOf}
 use Rattle.sheet.proofs.Laws.Good.{SoFar, begun, turned-in-bytes, ended-in-bytes}
 use Rattle.sheet.proofs.good.good_entries.Statement.{statement}
 use Rattle.sheet.proofs.good.good_entries.Tie as tie
-use Rattle.sheet.proofs.good.good_entries.Reads as reads
-use Rattle.sheet.proofs.good.good_entries.Lts as lts
-use Rattle.sheet.proofs.bytes.entry_from.Reads as entry-from-reads
-use Rattle.sheet.proofs.good.good_entry.Reads as good-entry-reads
 
 abbrev Inv-loop : tie.InvT-loop
 Inv-loop s n cells count ok₀ least₀ i₀ ok least i = (i ≤ n) × SoFar (entriesOf n s) cells ok least i

@@ -4,18 +4,13 @@ use native.Mathlib.Nat.{mod-zero}
 use borrow.Author.Needs.{needs}
 use Rattle.sheet.proofs.good.left_by.Statement.{statement}
 use Rattle.sheet.proofs.good.left_by.Tie as tie
-use Rattle.sheet.proofs.good.left_by.Reads as reads
-use Rattle.sheet.proofs.good.left_by.Lts as lts
 
--- src/good.rt:17:9
 returns : tie.Need-returns
 returns c = rw (c .if1 .taken, mod-zero)
 
--- src/good.rt:19:5
 rem-result : tie.Need-rem-result
 rem-result c = search needs
 
--- src/good.rt:13:1
 returns-2 : tie.Need-returns-2
 returns-2 c = search needs
 

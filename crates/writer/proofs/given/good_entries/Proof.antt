@@ -8,9 +8,6 @@ use lib.ListN.{length}
 use Rattle.writer.proofs.Laws.Given.{TestedSoFar, tested-begun, tested-turned, tested-ended}
 use Rattle.writer.proofs.given.good_entries.Statement.{statement}
 use Rattle.writer.proofs.given.good_entries.Tie as tie
-use Rattle.writer.proofs.given.good_entries.Reads as reads
-use Rattle.writer.proofs.given.good_entries.Lts as lts
-use Rattle.sheet.proofs.good_entry.Reads as good-entry-reads
 
 abbrev Inv-loop : tie.InvT-loop
 Inv-loop n cells es ok₀ least₀ i₀ ok least i = TestedSoFar es n cells ok least i

@@ -8,9 +8,6 @@ use lib.ListN.{length}
 use Rattle.writer.proofs.Laws.Given.{LaidSoFar, laid-begun, laid-turned, laid-ended}
 use Rattle.writer.proofs.given.put_entries.Statement.{statement}
 use Rattle.writer.proofs.given.put_entries.Tie as tie
-use Rattle.writer.proofs.given.put_entries.Reads as reads
-use Rattle.writer.proofs.given.put_entries.Lts as lts
-use Rattle.writer.proofs.put_entry.Reads as put-entry-reads
 
 abbrev Inv-loop : tie.InvT-loop
 Inv-loop buf₀ n es i₀ buf i = LaidSoFar es n buf₀ buf i

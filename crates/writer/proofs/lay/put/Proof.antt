@@ -8,8 +8,6 @@ use lib.ListN.{length}
 use Rattle.writer.proofs.Laws.Laying.{no-room, PutSoFar, put-begun, put-turned, put-ended}
 use Rattle.writer.proofs.lay.put.Statement.{statement}
 use Rattle.writer.proofs.lay.put.Tie as tie
-use Rattle.writer.proofs.lay.put.Reads as reads
-use Rattle.writer.proofs.lay.put.Lts as lts
 
 abbrev Inv-loop : tie.InvT-loop
 Inv-loop buf₀ at src i₀ buf i = PutSoFar buf₀ at src buf i
