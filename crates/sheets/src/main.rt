@@ -39,14 +39,22 @@ fn put_number(line: &mut [u8], at: usize, n: u64) -> usize {
     put(line, at, &text[..k])
 }
 
-fn put_day(line: &mut [u8], at: usize, day: i32) -> usize {
-    let n = numbers::magnitude(day as i64);
-    if day < 0 {
-        let at = put(line, at, b"day -");
-        return put_number(line, at, n);
-    }
-    let at = put(line, at, b"day ");
+// Text, and a number behind it.
+fn put_both(line: &mut [u8], at: usize, text: &[u8], n: u64) -> usize {
+    let at = put(line, at, text);
     put_number(line, at, n)
+}
+
+fn without_sign(day: i32) -> u64 {
+    numbers::magnitude(day as i64)
+}
+
+fn put_day(line: &mut [u8], at: usize, day: i32) -> usize {
+    let n = without_sign(day);
+    if day < 0 {
+        return put_both(line, at, b"day -", n);
+    }
+    put_both(line, at, b"day ", n)
 }
 
 // A good sheet has no blank entry: the word is here so that a wrong answer would show.
@@ -59,8 +67,7 @@ fn put_content(line: &mut [u8], at: usize, c: Content) -> usize {
 }
 
 fn put_entry(line: &mut [u8], at: usize, e: Entry) -> usize {
-    let at = put(line, at, b" ");
-    let at = put_number(line, at, e.cell as u64);
+    let at = put_both(line, at, b" ", e.cell as u64);
     let at = put(line, at, b" ");
     put_content(line, at, e.content())
 }
@@ -76,20 +83,11 @@ fn put_entries(line: &mut [u8], at: usize, s: &[u8], count: u8) -> usize {
 }
 
 fn put_numbers(line: &mut [u8], at: usize, n: Numbers) -> usize {
-    let at = put(line, at, b"sender ");
-    let at = put_number(line, at, n.sender as u64);
-    let at = put(line, at, b" of ");
-    let at = put_number(line, at, n.desks as u64);
-    let at = put(line, at, b", ");
-    let at = put_number(line, at, n.cells as u64);
-    let at = put(line, at, b" cells, turn ");
-    let at = put_number(line, at, n.turn as u64);
+    let at = put_both(line, at, b"sender ", n.sender as u64);
+    let at = put_both(line, at, b" of ", n.desks as u64);
+    let at = put_both(line, at, b", ", n.cells as u64);
+    let at = put_both(line, at, b" cells, turn ", n.turn as u64);
     put(line, at, b":")
-}
-
-fn put_refused(line: &mut [u8], at: usize, number: u8) -> usize {
-    let at = put(line, at, b"refused ");
-    put_number(line, at, number as u64)
 }
 
 // Entry k of a sheet, made anew from its cell and content.
@@ -124,10 +122,7 @@ fn put_again(line: &mut [u8], at: usize, room: &mut [u8], s: &[u8], n: Numbers) 
             }
             put(line, at, b" OTHER")
         }
-        Written::Refused(number) => {
-            let at = put(line, at, b" ");
-            put_refused(line, at, number)
-        }
+        Written::Refused(number) => put_both(line, at, b" refused ", number as u64),
     }
 }
 
@@ -142,7 +137,7 @@ fn put_good(line: &mut [u8], s: &[u8], n: Numbers) -> usize {
 fn put_sheet(line: &mut [u8], s: &[u8]) -> usize {
     match sheet::read(s) {
         Reading::Good(n) => put_good(line, s, n),
-        Reading::Refused(number) => put_refused(line, 0, number),
+        Reading::Refused(number) => put_both(line, 0, b"refused ", number as u64),
     }
 }
 
