@@ -3,6 +3,10 @@
 //
 // The input, of at most 65,536 bytes, is a row of records: a length of 2 bytes, low byte first, and
 // so many bytes, which are read as a sheet. A record that is cut short ends the run.
+//
+// The records of the file stdin beside src/: 01's examples 1 and 2, cell 1 open, day -1, the days at
+// both ends; not good: example 1 without its last byte, kind 3, 65 desks, open with a day, no byte
+// at all, turn number 4,294,967,295; good: 4,294,967,294; and one that is cut short.
 ghost use Prim.Native.Nat.{_<_};
 ghost use lib.ListN.{length};
 use content::Content;
@@ -106,6 +110,7 @@ fn entries_again(s: &[u8]) -> [Entry; 64] {
     es
 }
 
+// Whether the room's first `len` bytes are those of s, and all of them.
 fn is_first(room: &[u8], len: usize, s: &[u8]) -> bool {
     if room.len() < len {
         return false;
