@@ -9,7 +9,7 @@ use lib.Dec.{eqb, leb, ltb}
 use lib.ListN.{getD}
 use lib.IntN.{ℤ, pos, negsuc, natAbs, _+ℤ_, _-ℤ_}
 use lib.Signed.{leZ}
-use Rattle.content.specs.Answer.{Answer, refused, given, _if_, answer}
+use Rattle.answer.specs.Answer.{Answer, refused, answered, _if_, answer}
 use Rattle.calendar.specs.declared.Date.{Date}
 use Rattle.calendar.specs.declared.DayAnswer.{DayAnswer}
 use Rattle.calendar.specs.declared.DayAnswer.the-variants as day
@@ -117,9 +117,9 @@ lastDate = record { year = 2199; month = 12; day = 31 }
 -- ---- the answers: what each case of the code's enums says
 
 abbrev pub saidDay : DayAnswer → Answer ℤ
-saidDay (day.Day z) = given z
+saidDay (day.Day z) = answered z
 saidDay (day.Refused no′) = refused no′
 
 abbrev pub saidDate : DateAnswer → Answer Date
-saidDate (date.Date t) = given t
+saidDate (date.Date t) = answered t
 saidDate (date.Refused no′) = refused no′

@@ -4,15 +4,15 @@
 use mathlib.Core.Path.{_≡_}
 use mathlib.Core.Bool.{true}
 use lib.IntN.{ℤ, pos, negsuc, sucℤ}
-use Rattle.content.specs.Answer.{refused, given}
+use Rattle.answer.specs.Answer.{refused, answered}
 use Rattle.calendar.specs.declared.Date.{Date}
 use Rattle.calendar.specs.Calendar.{isDate, isDay, dayZero, numberOf, dayOf, dateOf, nextDate, lastDate}
 
 -- date to day number and back: a date has a day's number, and that day's date is the date
 pub record DateComesBack (t : Date) : Type 0 where
-  pub numbered : dayOf t ≡ given (numberOf t)
+  pub numbered : dayOf t ≡ answered (numberOf t)
   pub in-range : isDay (numberOf t) ≡ true
-  pub back : dateOf (numberOf t) ≡ given t
+  pub back : dateOf (numberOf t) ≡ answered t
 
 abbrev pub DatesComeBack : Type 0
 DatesComeBack = (t : Date) → isDate t ≡ true → DateComesBack t
@@ -20,9 +20,9 @@ DatesComeBack = (t : Date) → isDate t ≡ true → DateComesBack t
 -- day number to date and back: a day has a date, and that date's number is the day's
 pub record DayComesBack (z : ℤ) : Type 0 where
   pub date : Date
-  pub dated : dateOf z ≡ given date
+  pub dated : dateOf z ≡ answered date
   pub in-range : isDate date ≡ true
-  pub back : dayOf date ≡ given z
+  pub back : dayOf date ≡ answered z
 
 abbrev pub DaysComeBack : Type 0
 DaysComeBack = (z : ℤ) → isDay z ≡ true → DayComesBack z
@@ -37,13 +37,13 @@ NextDates = (t : Date) → isDate t ≡ true → (t ≡ lastDate → ⊥) → Ne
 
 -- and the day after a day has the next date
 abbrev pub NextDays : Type 0
-NextDays = (z : ℤ) (t : Date) → dateOf z ≡ given t → isDay (sucℤ z) ≡ true → dateOf (sucℤ z) ≡ given (nextDate t)
+NextDays = (z : ℤ) (t : Date) → dateOf z ≡ answered t → isDay (sucℤ z) ≡ true → dateOf (sucℤ z) ≡ answered (nextDate t)
 
 -- the calendar's two ends and what lies past them, day 0, and the day before it
 pub record Ends : Type 0 where
-  pub first : dayOf (record { year = 1901; month = 1; day = 1 }) ≡ given (negsuc 25201)
-  pub last : dayOf lastDate ≡ given (pos 84006)
+  pub first : dayOf (record { year = 1901; month = 1; day = 1 }) ≡ answered (negsuc 25201)
+  pub last : dayOf lastDate ≡ answered (pos 84006)
   pub before-first : dateOf (negsuc 25202) ≡ refused 22
   pub after-last : dateOf (pos 84007) ≡ refused 22
-  pub zero : dateOf (pos 0) ≡ given dayZero
-  pub before-zero : dateOf (negsuc 0) ≡ given (record { year = 1969; month = 12; day = 31 })
+  pub zero : dateOf (pos 0) ≡ answered dayZero
+  pub before-zero : dateOf (negsuc 0) ≡ answered (record { year = 1969; month = 12; day = 31 })

@@ -3,7 +3,7 @@
 -- Assumes nothing.
 use mathlib.Core.Bool.{Bool, true, false}
 use lib.IntN.{ℤ, pos, negsuc, _-ℤ_}
-use Rattle.content.specs.Answer.{Answer, given}
+use Rattle.answer.specs.Answer.{Answer, answered}
 use Rattle.content.specs.declared.Content.{Content}
 use Rattle.content.specs.declared.Content.the-variants as content
 use Rattle.content.specs.declared.Standing.{Standing}
@@ -36,7 +36,7 @@ past (left (pos n)) = false
 past (left (negsuc n)) = true
 
 -- what each case of the code's enum says; a standing is never refused ("Standing: none.")
-abbrev pub said : Standing → Answer Stands
-said standing.Unknown = given unknown
-said standing.Open = given no-end
-said (standing.Left n) = given (left n)
+abbrev pub saidStanding : Standing → Answer Stands
+saidStanding standing.Unknown = answered unknown
+saidStanding standing.Open = answered no-end
+saidStanding (standing.Left n) = answered (left n)

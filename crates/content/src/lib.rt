@@ -8,9 +8,9 @@
 // A promise is proved for the compiled code's source; nobody has to test it to rely on it.
 ghost use mathlib.Core.Path.{_≡_};
 ghost use lib.IntN.{_-ℤ_};
-ghost use Rattle.content.specs.Answer.{given};
+ghost use Rattle.answer.specs.Answer.{answered};
 ghost use Rattle.content.specs.Content.{kindOf, dayOf, contentOf};
-ghost use Rattle.content.specs.Standing.{standingOn, said};
+ghost use Rattle.content.specs.Standing.{standingOn, saidStanding};
 
 // "A cell's content is blank, open, or a day with its signed 32-bit number; each is a case of its
 // own." Blank means never written.
@@ -30,7 +30,7 @@ pub enum Standing {
 impl Content {
     // 01, "Standing": a day gives its number minus today's, exact in 64 bits. Refuses nothing.
     pub fn standing(self, today: i32) -> Standing
-        ensures { λ r. ⌜ said r ≡ given (standingOn self today) ⌝ }
+        ensures { λ r. ⌜ saidStanding r ≡ answered (standingOn self today) ⌝ }
     {
         match self {
             Content::Blank => Standing::Unknown,

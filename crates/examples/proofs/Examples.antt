@@ -4,8 +4,10 @@ use mathlib.Core.Path.{refl}
 use Rattle.calendar.specs.Spans.{before}
 use Rattle.calendar.specs.Calendar.{lengthIn, yearLength, isDate, daysTo, numberOf, dayOf}
 use Rattle.sheet.specs.Layout.{sheetFor}
-use Rattle.examples.specs.Examples.{sheetAtTurn0, cases, ExamplesHold}
+use Rattle.sheet.specs.Good.{good}
+use Rattle.writer.specs.Writing.{writtenOf, bufferOf}
+use Rattle.examples.specs.Examples.{written, cases, ExamplesHold}
 
 pub examples-hold : ExamplesHold
-unfolding cases sheetAtTurn0 sheetFor before lengthIn yearLength isDate daysTo numberOf dayOf
+unfolding cases written writtenOf bufferOf good sheetFor before lengthIn yearLength isDate daysTo numberOf dayOf
 examples-hold = refl

@@ -5,18 +5,21 @@ use mathlib.Core.Path.{_≡_}
 use mathlib.Core.List.{List, [], _∷_, map}
 use Prim.Native.Nat.{ℕ}
 use lib.IntN.{ℤ, pos, negsuc}
-use Rattle.content.specs.Answer.{Answer, given}
+use Rattle.answer.specs.Answer.{Answer, answered}
 use Rattle.content.specs.declared.Content.the-variants.{Blank, Day}
 use Rattle.content.specs.Standing.{Stands, unknown, left, standingOn}
-use Rattle.numbers.specs.Numbers.{dayBytes}
+use lib.ListN.{drop}
 use Rattle.calendar.specs.declared.Date.{Date}
 use Rattle.calendar.specs.Calendar.{dayOf}
 use Rattle.sheet.specs.declared.Entry.{Entry}
-use Rattle.sheet.specs.Layout.{entryFor, sheetFor}
+use Rattle.sheet.specs.declared.Numbers.{Numbers}
+use Rattle.sheet.specs.Layout.{entryFor, entryBytes}
+use Rattle.writer.specs.Writing.{writtenOf, bufferOf}
 
 -- what the examples speak of
 pub data Value : Type 0 where
   bytes : List ℕ → Value
+  sheet : Answer ℕ → List ℕ → Value
   standing : Stands → Value
   day : Answer ℤ → Value
 
@@ -27,8 +30,11 @@ pub record Case : Type 0 where
   pub says : Value
 
 -- the sheet of desk 0 of 2, 2 cells, at turn 0, with these entries
-unfoldable pub sheetAtTurn0 : ℕ → List Entry → List ℕ
-sheetAtTurn0 n es = sheetFor (record { entries = n; sender = 0; desks = 2; cells = 2; turn = 0 }) es
+abbrev pub atTurn0 : ℕ → Numbers
+atTurn0 n = record { entries = n; sender = 0; desks = 2; cells = 2; turn = 0 }
+
+unfoldable pub written : ℕ → List Entry → List ℕ → Value
+written n es buf = sheet (writtenOf (atTurn0 n) es buf) (bufferOf (atTurn0 n) es buf)
 
 abbrev pub dateOf2000 : ℕ → ℕ → Date
 dateOf2000 m d = record { year = 2000; month = m; day = d }
@@ -38,24 +44,24 @@ cases =
     -- "Desk 0 of 2, 2 cells, sends day 0 in cell 1 at turn 0: `01 02 00 00 00 00 06 00 01 00 02 02 00 00 00 00 00 00`."
     record {
       example = 1;
-      made = bytes (sheetAtTurn0 1 (entryFor 1 (Day (pos 0)) ∷ []));
-      says = bytes (0x01 ∷ 0x02 ∷ 0x00 ∷ 0x00 ∷ 0x00 ∷ 0x00 ∷ 0x06 ∷ 0x00 ∷ 0x01 ∷ 0x00 ∷ 0x02 ∷ 0x02 ∷ 0x00 ∷ 0x00 ∷ 0x00 ∷ 0x00 ∷ 0x00 ∷ 0x00 ∷ []);
+      made = written 1 (entryFor 1 (Day (pos 0)) ∷ []) (7 ∷ 7 ∷ 7 ∷ 7 ∷ 7 ∷ 7 ∷ 7 ∷ 7 ∷ 7 ∷ 7 ∷ 7 ∷ 7 ∷ 7 ∷ 7 ∷ 7 ∷ 7 ∷ 7 ∷ 7 ∷ []);
+      says = sheet (answered 18) (0x01 ∷ 0x02 ∷ 0x00 ∷ 0x00 ∷ 0x00 ∷ 0x00 ∷ 0x06 ∷ 0x00 ∷ 0x01 ∷ 0x00 ∷ 0x02 ∷ 0x02 ∷ 0x00 ∷ 0x00 ∷ 0x00 ∷ 0x00 ∷ 0x00 ∷ 0x00 ∷ []);
     }
     -- "Nothing pending there: `00 00 00 00 02 02 00 00 00 00 00 00`."
     ∷ record {
       example = 2;
-      made = bytes (sheetAtTurn0 0 []);
-      says = bytes (0x00 ∷ 0x00 ∷ 0x00 ∷ 0x00 ∷ 0x02 ∷ 0x02 ∷ 0x00 ∷ 0x00 ∷ 0x00 ∷ 0x00 ∷ 0x00 ∷ 0x00 ∷ []);
+      made = written 0 [] (7 ∷ 7 ∷ 7 ∷ 7 ∷ 7 ∷ 7 ∷ 7 ∷ 7 ∷ 7 ∷ 7 ∷ 7 ∷ 7 ∷ []);
+      says = sheet (answered 12) (0x00 ∷ 0x00 ∷ 0x00 ∷ 0x00 ∷ 0x02 ∷ 0x02 ∷ 0x00 ∷ 0x00 ∷ 0x00 ∷ 0x00 ∷ 0x00 ∷ 0x00 ∷ []);
     }
     -- "Day -1 is `FF FF FF FF`."
-    ∷ record { example = 3; made = bytes (dayBytes (negsuc 0)); says = bytes (0xFF ∷ 0xFF ∷ 0xFF ∷ 0xFF ∷ []) }
+    ∷ record { example = 3; made = bytes (drop 2 (entryBytes (entryFor 1 (Day (negsuc 0))))); says = bytes (0xFF ∷ 0xFF ∷ 0xFF ∷ 0xFF ∷ []) }
     -- "Standing of day 0 on day 0 is 0 left; on day 1 it is -1; of blank, unknown."
     ∷ record { example = 7; made = standing (standingOn (Day (pos 0)) (pos 0)); says = standing (left (pos 0)) }
     ∷ record { example = 7; made = standing (standingOn (Day (pos 0)) (pos 1)); says = standing (left (negsuc 0)) }
     ∷ record { example = 7; made = standing (standingOn Blank (pos 1)); says = standing unknown }
     -- "1 January 2000 is 10,957 and 29 February 2000 is 11,016."
-    ∷ record { example = 8; made = day (dayOf (dateOf2000 1 1)); says = day (given (pos 10957)) }
-    ∷ record { example = 8; made = day (dayOf (dateOf2000 2 29)); says = day (given (pos 11016)) }
+    ∷ record { example = 8; made = day (dayOf (dateOf2000 1 1)); says = day (answered (pos 10957)) }
+    ∷ record { example = 8; made = day (dayOf (dateOf2000 2 29)); says = day (answered (pos 11016)) }
     ∷ []
 
 -- the definitions make of every case what 01 says

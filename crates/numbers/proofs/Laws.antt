@@ -1,18 +1,13 @@
--- Laws of `num`, `bytes` and `dayBytes`: numbers to bytes and back, once for every count of bytes.
+-- Laws of `num` and `bytes`: numbers to bytes and back, once for every count of bytes.
 --   length-bytes, bytes-are      how many bytes there are, and that they are bytes
 --   num-bytes, bytes-num         a number's bytes make the number; the bytes of what bytes make are those bytes
---   day-of-dayBytes              a day's bytes make the day
 -- Assumes nothing.
 use mathlib.Core.Path.{_≡_, refl, sym, ap, _∙_}
 use mathlib.Core.List.{List, [], _∷_}
 use Prim.Native.Nat.{ℕ, zero, suc, _+_, _*_, _/_, _%_, _<_, _≤_, _^_}
 use native.Mathlib.Omega.{arith}
 use lib.ListN.{length}
-use lib.IntN.{ℤ}
-use mir.Syntax.{w32}
-use mir.Val.{SFits, toZ, ofZ}
-use mir.Facts.{toZ-ofZ, fits-ofZ}
-use Rattle.numbers.specs.Numbers.{num, bytes, dayBytes}
+use Rattle.numbers.specs.Numbers.{num, bytes}
 
 -- every element is a byte
 pub data Bytes : List ℕ → Type 0 where
@@ -39,6 +34,3 @@ bytes-num {l = b ∷ bs} (more h r) =
     let lo : (b + 256 * num bs) % 256 ≡ b = omega arith in
     let hi : (b + 256 * num bs) / 256 ≡ num bs = omega arith in
     rw (lo, hi, bytes-num r)
-
-pub day-of-dayBytes : (z : ℤ) → SFits w32 z → toZ w32 (num (dayBytes z)) ≡ z
-day-of-dayBytes z h = rw (num-bytes 4 (ofZ w32 z) (fits-ofZ h .fits)) (toZ-ofZ h)

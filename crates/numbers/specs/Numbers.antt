@@ -3,9 +3,7 @@
 -- Assumes nothing.
 use Prim.Native.Nat.{ℕ, zero, suc, _+_, _*_, _/_, _%_}
 use mathlib.Core.List.{List, [], _∷_}
-use lib.IntN.{ℤ}
-use mir.Syntax.{w32}
-use mir.Val.{ofZ}
+use lib.ListN.{getD}
 
 -- the number that bytes make, low byte first
 abbrev pub num : List ℕ → ℕ
@@ -17,6 +15,12 @@ abbrev pub bytes : ℕ → ℕ → List ℕ
 bytes zero n = []
 bytes (suc k) n = n % 256 ∷ bytes k (n / 256)
 
--- the four bytes of a day
-abbrev pub dayBytes : ℤ → List ℕ
-dayBytes z = bytes 4 (ofZ w32 z)
+-- the byte at i, and the numbers of two and of four bytes from i on; past the end the bytes are zeros
+abbrev pub at1 : List ℕ → ℕ → ℕ
+at1 l i = getD l i 0
+
+abbrev pub at2 : List ℕ → ℕ → ℕ
+at2 l i = num (at1 l i ∷ at1 l (i + 1) ∷ [])
+
+abbrev pub at4 : List ℕ → ℕ → ℕ
+at4 l i = num (at1 l i ∷ at1 l (i + 1) ∷ at1 l (i + 2) ∷ at1 l (i + 3) ∷ [])

@@ -1,6 +1,6 @@
 // Numbers as bytes. 01, "A sheet and its trailer": "All numbers low byte first", and a day is
 // "4, two's complement". Whoever reads or writes a sheet, a tray or a record's bytes goes by this
-// crate, and the sign of a day is met nowhere else than in `signed` and `pattern`.
+// crate, and a day's two's complement pattern is met nowhere else than in `signed` and `pattern`.
 //
 // No function here refuses: each takes every value of its types.
 ghost use mathlib.Core.Path.{_≡_};

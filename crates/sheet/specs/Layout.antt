@@ -4,12 +4,12 @@
 -- The bytes of entries and a trailer, and what bytes hold. `Entry`, `Trailer` and `Numbers` are the structs of the code; an entry keeps
 -- its day as the number of its four bytes.
 -- Assumes nothing.
-use Prim.Native.Nat.{ℕ, zero, suc, _+_, _*_, _-_}
+use Prim.Native.Nat.{ℕ, zero, suc, _*_, _-_}
 use mathlib.Core.List.{List, [], _∷_, _++_}
-use lib.ListN.{length, getD, take, drop}
+use lib.ListN.{length, take, drop}
 use mir.Syntax.{w32}
 use mir.Val.{toZ, ofZ}
-use Rattle.numbers.specs.Numbers.{num, bytes}
+use Rattle.numbers.specs.Numbers.{bytes, at1, at2, at4}
 use Rattle.content.specs.declared.Content.{Content}
 use Rattle.content.specs.Content.{kindOf, dayOf, contentOf}
 use Rattle.sheet.specs.declared.Entry.{Entry}
@@ -18,7 +18,7 @@ use Rattle.sheet.specs.declared.Numbers.{Numbers}
 
 -- ---- to bytes
 
--- "cell (1), kind (1), day (4)"
+-- "cell (1), kind (1: ..), day (4, ..)"
 abbrev pub entryBytes : Entry → List ℕ
 entryBytes e = e .cell ∷ e .kind ∷ bytes 4 (e .day)
 
@@ -36,16 +36,6 @@ abbrev pub sheetBytes : List Entry → Trailer → List ℕ
 sheetBytes es t = entriesBytes es ++ trailerBytes t
 
 -- ---- from bytes
-
--- the byte at i, and the numbers of two and of four bytes from i on
-abbrev pub at1 : List ℕ → ℕ → ℕ
-at1 l i = getD l i 0
-
-abbrev pub at2 : List ℕ → ℕ → ℕ
-at2 l i = num (at1 l i ∷ at1 l (i + 1) ∷ [])
-
-abbrev pub at4 : List ℕ → ℕ → ℕ
-at4 l i = num (at1 l i ∷ at1 l (i + 1) ∷ at1 l (i + 2) ∷ at1 l (i + 3) ∷ [])
 
 -- the entry that bytes begin with
 abbrev pub entryOf : List ℕ → Entry

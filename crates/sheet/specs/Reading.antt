@@ -5,7 +5,7 @@ use mathlib.Core.Bool.{not, cond}
 use mathlib.Core.List.{List, [], _∷_}
 use lib.Dec.{leb}
 use lib.ListN.{length, drop}
-use Rattle.content.specs.Answer.{Answer, refused, given, _if_, answer}
+use Rattle.answer.specs.Answer.{Answer, refused, answered, _if_, answer}
 use Rattle.sheet.specs.declared.Entry.{Entry}
 use Rattle.sheet.specs.declared.Numbers.{Numbers}
 use Rattle.sheet.specs.declared.Reading.{Reading}
@@ -28,7 +28,7 @@ readOf s = answer (13 if not (good s) ∷ []) (sheetIn s (numbersOf (trailerIn s
 
 -- what the answer to reading the bytes s says: the entries stay in the bytes, and are read where they stand
 abbrev pub saidRead : List ℕ → Reading → Answer Sheet
-saidRead s (read.Good n) = given (sheetIn s n)
+saidRead s (read.Good n) = answered (sheetIn s n)
 saidRead s (read.Refused k) = refused k
 
 -- entry k where it stands; an entry of zeros, which is of no kind, where the bytes end before it does

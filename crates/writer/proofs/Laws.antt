@@ -1,3 +1,2 @@
-pub mod Laying
 pub mod Given
 pub mod Writing

@@ -10,15 +10,15 @@ use native.Mathlib.Omega.{arith}
 use lib.ListN.{length, take, drop}
 use lib.Seq.{take-at}
 use borrow.Author.Tests.{le-ltb, not-false}
-use Rattle.content.specs.Answer.{given, _if_}
-use Rattle.content.proofs.Laws.Answer.{Silent, given-only-if, given-if, changed-if}
+use Rattle.answer.specs.Answer.{answered, _if_}
+use Rattle.answer.proofs.Laws.{Silent, answered-only-if, answered-if, changed-if}
 use Rattle.sheet.specs.declared.Entry.{Entry}
 use Rattle.sheet.specs.declared.Numbers.{Numbers}
 use Rattle.sheet.specs.declared.Trailer.{Trailer}
 use Rattle.sheet.specs.Layout.{entriesOf, trailerIn, trailerBytes, sheetBytes, numbersOf, trailerFor, sheetFor}
 use Rattle.sheet.specs.Good.{good}
 use Rattle.sheet.specs.Reading.{Sheet, sheetIn, readOf}
-use Rattle.sheet.specs.Values.{AreBytes, DaysFit, NumbersFit, no-days, a-day}
+use Rattle.sheet.specs.Values.{AreBytes, DaysFit, NumbersFit}
 use Rattle.sheet.proofs.Laws.Layout.{entries-back, entries-count, trailer-back, sheet-again, sheet-length}
 use Rattle.sheet.proofs.Laws.Good.{FairTrailer, good-trailer-is-fair, good-length}
 use Rattle.sheet.proofs.Laws.Reading.{good-read}
@@ -28,29 +28,24 @@ use Rattle.writer.proofs.Laws.Writing.{trailer-fits}
 
 -- ---- a written sheet reads back
 
-days-of-part : {es : List Entry} → DaysFit es → (k : ℕ) → DaysFit (take k es)
-days-of-part f zero = no-days
-days-of-part no-days (suc k) = no-days
-days-of-part (a-day h f) (suc k) = a-day h (days-of-part f k)
-
-reads-as-given : (n : Numbers) (es : List Entry) → NumbersFit n → DaysFit es → good (sheetFor n es) ≡ true
-    → readOf (sheetFor n es) ≡ given (record { numbers = n; entries = take (n .entries) es })
+reads-as-given : (n : Numbers) (es : List Entry) → NumbersFit n → DaysFit (take (n .entries) es) → good (sheetFor n es) ≡ true
+    → readOf (sheetFor n es) ≡ answered (record { numbers = n; entries = take (n .entries) es })
 unfolding sheetFor
 reads-as-given n es fit days g =
     let part : List Entry = take (n .entries) es in
     let s : List ℕ = sheetBytes part (trailerFor n) in
     let t : trailerIn s ≡ trailerFor n = trailer-back part (trailerFor n) (trailer-fits n fit) in
     let count : length part ≡ n .entries = omega (arith, good-length s g, ap (λ (x : Trailer). x .entries) t, sheet-length part (trailerFor n)) in
-    let held : entriesOf (n .entries) s ≡ part = ap (λ (k : ℕ). entriesOf k s) (sym count) ∙ entries-back (days-of-part days (n .entries)) (trailerBytes (trailerFor n)) in
+    let held : entriesOf (n .entries) s ≡ part = ap (λ (k : ℕ). entriesOf k s) (sym count) ∙ entries-back days (trailerBytes (trailerFor n)) in
     good-read s g
-    ∙ ap (λ (x : Trailer). given (sheetIn s (numbersOf x))) t
-    ∙ ap (λ (l : List Entry). given (record { numbers = n; entries = l })) held
+    ∙ ap (λ (x : Trailer). answered (sheetIn s (numbersOf x))) t
+    ∙ ap (λ (l : List Entry). answered (record { numbers = n; entries = l })) held
 
 pub written-reads-back : WrittenReadsBack
 unfolding WrittenReadsBack writtenOf bufferOf
 written-reads-back n es buf len fit days e =
     let s : List ℕ = sheetFor n es in
-    let carried-out = given-only-if (writeRules s buf) (length s) len e in
+    let carried-out = answered-only-if (writeRules s buf) (length s) len e in
     ap (λ (l : List ℕ). readOf (take len l)) (changed-if (writeRules s buf) buf (s ++ drop (length s) buf) (carried-out .0))
     ∙ ap readOf (take-at s (drop (length s) buf) len (carried-out .1))
     ∙ reads-as-given n es fit days (not-false (good s) (carried-out .0 .0))
@@ -83,10 +78,10 @@ same-bytes s more b g =
 pub read-writes-back : ReadWritesBack
 unfolding ReadWritesBack readOf writtenOf bufferOf
 read-writes-back s sheet more buf b e room =
-    let carried-out = given-only-if (13 if not (good s) ∷ []) (sheetIn s (numbersOf (trailerIn s))) sheet e in
+    let carried-out = answered-only-if (13 if not (good s) ∷ []) (sheetIn s (numbersOf (trailerIn s))) sheet e in
     let g : good s ≡ true = not-false (good s) (carried-out .0 .0) in
     let same : sheetFor (sheet .numbers) (sheet .entries ++ more) ≡ s =
     ap (λ (x : Sheet). sheetFor (x .numbers) (x .entries ++ more)) (sym (carried-out .1)) ∙ same-bytes s more b g
     in
     let silent : Silent (writeRules s buf) = (rw g, (le-ltb (length buf) (length s) room, tt)) in
-    rw same (given-if (writeRules s buf) (length s) silent, changed-if (writeRules s buf) buf (s ++ drop (length s) buf) silent)
+    rw same (answered-if (writeRules s buf) (length s) silent, changed-if (writeRules s buf) buf (s ++ drop (length s) buf) silent)

@@ -1,4 +1,3 @@
-pub mod Laying
 pub mod Writing
 pub mod Parts
 pub mod RoundTrip

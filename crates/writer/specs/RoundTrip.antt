@@ -5,7 +5,7 @@ use mathlib.Core.Path.{_≡_}
 use mathlib.Core.List.{List, _++_}
 use Prim.Native.Nat.{ℕ, _≤_}
 use lib.ListN.{length, take, drop}
-use Rattle.content.specs.Answer.{given}
+use Rattle.answer.specs.Answer.{answered}
 use Rattle.sheet.specs.declared.Entry.{Entry}
 use Rattle.sheet.specs.declared.Numbers.{Numbers}
 use Rattle.sheet.specs.Reading.{Sheet, readOf}
@@ -16,13 +16,13 @@ use Rattle.writer.specs.Writing.{writtenOf, bufferOf}
 -- numbers given and as many of the entries given as they say
 unfoldable pub WrittenReadsBack : Type 0
 WrittenReadsBack =
-    (n : Numbers) (es : List Entry) (buf : List ℕ) (len : ℕ) → NumbersFit n → DaysFit es → writtenOf n es buf ≡ given len
-    → readOf (take len (bufferOf n es buf)) ≡ given (record { numbers = n; entries = take (n .entries) es })
+    (n : Numbers) (es : List Entry) (buf : List ℕ) (len : ℕ) → NumbersFit n → DaysFit (take (n .entries) es) → writtenOf n es buf ≡ answered len
+    → readOf (take len (bufferOf n es buf)) ≡ answered (record { numbers = n; entries = take (n .entries) es })
 
 -- "a good sheet's entries and trailer numbers write the same bytes again": into any buffer with room, from an array that begins with
 -- the entries read
 unfoldable pub ReadWritesBack : Type 0
 ReadWritesBack =
-    (s : List ℕ) (sheet : Sheet) (more : List Entry) (buf : List ℕ) → AreBytes s → readOf s ≡ given sheet → length s ≤ length buf
-    → (writtenOf (sheet .numbers) (sheet .entries ++ more) buf ≡ given (length s))
+    (s : List ℕ) (sheet : Sheet) (more : List Entry) (buf : List ℕ) → AreBytes s → readOf s ≡ answered sheet → length s ≤ length buf
+    → (writtenOf (sheet .numbers) (sheet .entries ++ more) buf ≡ answered (length s))
     × (bufferOf (sheet .numbers) (sheet .entries ++ more) buf ≡ s ++ drop (length s) buf)

@@ -7,7 +7,7 @@ use mathlib.Core.List.{List, [], _∷_, _++_}
 use Prim.Native.Nat.{ℕ}
 use lib.Dec.{ltb}
 use lib.ListN.{length, drop}
-use Rattle.content.specs.Answer.{Answer, Rule, refused, given, _if_, answer, leaves}
+use Rattle.answer.specs.Answer.{Answer, Rule, refused, answered, _if_, answer, leaves}
 use Rattle.sheet.specs.declared.Entry.{Entry}
 use Rattle.sheet.specs.declared.Numbers.{Numbers}
 use Rattle.sheet.specs.Layout.{sheetFor}
@@ -29,7 +29,7 @@ bufferOf n es buf = leaves (writeRules (sheetFor n es) buf) buf (sheetFor n es +
 
 -- what each case of the code's enum says
 abbrev pub saidWritten : Written → Answer ℕ
-saidWritten (written.Sheet n) = given n
+saidWritten (written.Sheet n) = answered n
 saidWritten (written.Refused k) = refused k
 
 -- a call that found the buffer `before`, left it as `after` and answered r

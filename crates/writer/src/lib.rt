@@ -6,11 +6,10 @@
 // part by part.
 ghost use mathlib.Core.Path.{_≡_};
 ghost use Rattle.sheet.specs.Layout.{entryBytes, trailerBytes, trailerFor};
-ghost use Rattle.writer.specs.Laying.{laidOver};
+ghost use Rattle.laying.specs.Laying.{laidOver};
 ghost use Rattle.writer.specs.Writing.{Writes};
 
 mod given;
-mod lay;
 
 use sheet::Entry;
 use sheet::Numbers;
@@ -44,7 +43,7 @@ pub fn put_entry(buf: &mut [u8], at: usize, e: Entry)
 {
     let d = numbers::u32_bytes(e.day);
     let six = [e.cell, e.kind, d[0], d[1], d[2], d[3]];
-    lay::put(buf, at, &six);
+    laying::put(buf, at, &six);
 }
 
 // Lays a trailer's 12 bytes over the buffer from `at` on; without room it leaves every byte.
@@ -67,7 +66,7 @@ pub fn put_trailer(buf: &mut [u8], at: usize, t: Trailer)
         n[2],
         n[3],
     ];
-    lay::put(buf, at, &twelve);
+    laying::put(buf, at, &twelve);
 }
 
 // Writes the sheet of these numbers and of as many of these entries as they say. Refusals 13, 11.

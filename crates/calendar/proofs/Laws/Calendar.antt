@@ -11,8 +11,8 @@ use Prim.Native.Nat.{ℕ, zero, suc, _+_, _-_, _<_}
 use native.Mathlib.Nat.{eq-or-lt-of-le}
 use native.Mathlib.Omega.{arith}
 use lib.IntN.{ℤ, pos, negsuc, sucℤ, natAbs, _+ℤ_, _-ℤ_, sucℤ-+ℤ, -ℤ-+ℤ-cancel}
-use Rattle.content.specs.Answer.{Answer, refused, given}
-use Rattle.content.proofs.Laws.Answer.{apart}
+use Rattle.answer.specs.Answer.{Answer, refused, answered}
+use Rattle.answer.proofs.Laws.{apart}
 use Rattle.calendar.specs.Spans.{before, spanOf}
 use Rattle.calendar.specs.declared.Date.{Date}
 use Rattle.calendar.specs.declared.DayAnswer.{DayAnswer}
@@ -46,7 +46,7 @@ days-come-back z e =
       date = dateAt (x .i);
       dated = rw (e, days-to-zero, x .plus);
       in-range = t-is-date;
-      back = rw (t-is-date, number-of (dateAt (x .i)), days-to-date-at (x .i) (x .small)) (ap given (sym (index-is z x)));
+      back = rw (t-is-date, number-of (dateAt (x .i)), days-to-date-at (x .i) (x .small)) (ap answered (sym (index-is z x)));
     }
 
 -- ---- one day on
@@ -73,14 +73,14 @@ pub next-dates : NextDates
 next-dates t e differs = next-of t e (before-last t e differs)
 
 -- a day that has a date is a day of the calendar, and the date's number is the day's
-dated-day : (z : ℤ) (t : Date) (b : Bool) → isDay z ≡ b → dateOf z ≡ given t → (isDate t ≡ true) × (numberOf t ≡ z)
+dated-day : (z : ℤ) (t : Date) (b : Bool) → isDay z ≡ b → dateOf z ≡ answered t → (isDate t ≡ true) × (numberOf t ≡ z)
 unfolding dateOf
 dated-day z t true d e =
     let back = days-come-back z d in
     let same : back .date ≡ t = cc in
     let is-date : isDate t ≡ true = rw same at (back .in-range) in
     (is-date, (cc (dates-come-back t is-date .numbered)))
-dated-day z t false d e = let none : refused 22 ≡ given t = rw d at e in let nothing : _≡_ {A = ℕ} 0 1 = cc in absurd (omega arith)
+dated-day z t false d e = let none : refused 22 ≡ answered t = rw d at e in let nothing : _≡_ {A = ℕ} 0 1 = cc in absurd (omega arith)
 
 pub next-days : NextDays
 next-days z t e f =
@@ -102,7 +102,7 @@ ends = record { first = refl; last = refl; before-first = refl; after-last = ref
 
 again : {A E : Type 0} → (ℕ → E) → (A → E) → Answer A → E
 again no-value value (refused k) = no-value k
-again no-value value (given a) = value a
+again no-value value (answered a) = value a
 
 day-again : (a : DayAnswer) → again day.Refused day.Day (saidDay a) ≡ a
 unfolding again

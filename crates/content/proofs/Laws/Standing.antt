@@ -1,35 +1,39 @@
--- Laws of `standingOn`, `cleared`, `past` and `said` (specs/Standing.antt).
---   said-tells-apart                two answers that say the same are the same
+-- Laws of `standingOn`, `cleared`, `past` and `saidStanding` (specs/Standing.antt).
+--   saidStanding-tells-apart                two answers that say the same are the same
 --   on-the-day, on-the-next-day     on its own day a day has 0 left and is still cleared; on the next it has -1 left and is past
 --   day-is-cleared-or-past          a day is always one of the two and never both
 --   blank-is-neither, open-is-always-cleared
 --   least-on-greatest, greatest-on-least    both ends, exact
 -- Assumes nothing.
-use mathlib.Core.Path.{_≡_, refl, ap, _∙_}
-use mathlib.Core.Bool.{Bool, true, false, not}
-use Prim.Native.Nat.{ℕ, suc}
+use mathlib.Core.Path.{_≡_, refl, ap, sym, _∙_}
+use mathlib.Core.Bool.{Bool, true, false, not, cond}
+use Prim.Native.Nat.{ℕ, zero, suc}
+use native.Mathlib.Omega.{arith}
+use lib.Dec.{ltb}
+use lib.Signed.{ltZ}
+use borrow.Author.Tests.{le-ltb, lt-ltb, ltb-true, ltb-false}
 use lib.IntN.{ℤ, pos, negsuc, sucℤ, predℤ, negℤ, _+ℤ_, _-ℤ_, negℤ-sucℤ, +ℤ-predℤ, +ℤ-invr}
-use Rattle.content.specs.Answer.{Answer, refused, given}
+use Rattle.answer.specs.Answer.{Answer, refused, answered}
 use Rattle.content.specs.declared.Content.the-variants.{Blank, Open, Day}
 use Rattle.content.specs.declared.Standing.{Standing}
 use Rattle.content.specs.declared.Standing.the-variants as standing
-use Rattle.content.specs.Standing.{Stands, unknown, no-end, left, standingOn, cleared, past, said}
-use Rattle.content.proofs.Laws.Answer.{apart}
+use Rattle.content.specs.Standing.{Stands, unknown, no-end, left, standingOn, cleared, past, saidStanding}
+use Rattle.answer.proofs.Laws.{apart}
 
 -- the answer that says this; a standing is never refused
 abbrev again : Answer Stands → Standing
 again (refused k) = standing.Unknown
-again (given unknown) = standing.Unknown
-again (given no-end) = standing.Open
-again (given (left n)) = standing.Left n
+again (answered unknown) = standing.Unknown
+again (answered no-end) = standing.Open
+again (answered (left n)) = standing.Left n
 
-found : (a : Standing) → again (said a) ≡ a
+found : (a : Standing) → again (saidStanding a) ≡ a
 found standing.Unknown = refl
 found standing.Open = refl
 found (standing.Left n) = refl
 
-pub said-tells-apart : {a b : Standing} → said a ≡ said b → a ≡ b
-said-tells-apart = apart said again found
+pub saidStanding-tells-apart : {a b : Standing} → saidStanding a ≡ saidStanding b → a ≡ b
+saidStanding-tells-apart = apart saidStanding again found
 
 pub record OnTheDay (d : ℤ) : Type 0 where
   pub none-left : standingOn (Day d) d ≡ left (pos 0)
@@ -71,3 +75,20 @@ greatest-on-least = refl
 
 pub least-on-greatest : standingOn (Day (negsuc 2147483647)) (pos 2147483647) ≡ left (negsuc 4294967294)
 least-on-greatest = refl
+
+by-less : (b : Bool) (x y : ℕ) → past (left (cond b (negsuc x) (pos y))) ≡ b
+by-less true x y = refl
+by-less false x y = refl
+
+-- "below 0 is past": a day is past exactly on the days after it
+pub past-is-after : (d today : ℤ) → past (standingOn (Day d) today) ≡ ltZ d today
+past-is-after (pos a) (pos zero) = sym (le-ltb a 0 (omega arith))
+past-is-after (pos a) (pos (suc b)) = by-less (ltb a (suc b)) _ _
+past-is-after (pos a) (negsuc b) = refl
+past-is-after (negsuc a) (pos zero) = by-less (ltb 0 (suc a)) _ _ ∙ lt-ltb 0 (suc a) (omega arith)
+past-is-after (negsuc a) (pos (suc b)) = refl
+past-is-after (negsuc a) (negsuc b) = by-less (ltb (suc b) (suc a)) _ _ ∙ one-off (ltb b a) refl
+  where
+    one-off : (t : Bool) → ltb b a ≡ t → ltb (suc b) (suc a) ≡ ltb b a
+    one-off true p = lt-ltb (suc b) (suc a) (let h = ltb-true b a p in omega arith) ∙ sym p
+    one-off false p = le-ltb (suc b) (suc a) (let h = ltb-false b a p in omega arith) ∙ sym p

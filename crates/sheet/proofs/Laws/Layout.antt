@@ -19,7 +19,7 @@ use lib.Signed.{mag}
 use mir.Syntax.{w32}
 use mir.Val.{SFits, toZ, ofZ}
 use mir.Facts.{toZ-ofZ, fits-ofZ}
-use Rattle.numbers.specs.Numbers.{num, bytes}
+use Rattle.numbers.specs.Numbers.{bytes, at1}
 use Rattle.numbers.proofs.Laws.{none, more, num-bytes, bytes-num}
 use Rattle.content.specs.declared.Content.{Content}
 use Rattle.content.specs.declared.Content.the-variants.{Open, Day}
@@ -28,7 +28,7 @@ use Rattle.content.proofs.Laws.Content.{content-again}
 use Rattle.sheet.specs.declared.Entry.{Entry}
 use Rattle.sheet.specs.declared.Trailer.{Trailer}
 use Rattle.sheet.specs.Values.{AreBytes, DaysFit, no-days, a-day}
-use Rattle.sheet.specs.Layout.{at1, entryBytes, entriesBytes, trailerBytes, sheetBytes, entryOf, entriesOf, trailerOf, trailerIn, entryFor, contentIn}
+use Rattle.sheet.specs.Layout.{entryBytes, entriesBytes, trailerBytes, sheetBytes, entryOf, entriesOf, trailerOf, trailerIn, entryFor, contentIn}
 
 -- ---- entries, one by one
 

@@ -1,7 +1,7 @@
 -- Laws of `readOf`, `saidRead` and `entryAt` (specs/Reading.antt).
 --   readings                     a set for `search`: what `read` knows at each of its returns, and what it then answers
 --   good-read, bad-read          what reading gives, by `good` alone
---   said-read-tells-apart        two answers that say the same of the same bytes are the same
+--   saidRead-tells-apart        two answers that say the same of the same bytes are the same
 --   entries-in-place             entry k of a good sheet is what `entryAt` reads
 -- Assumes nothing.
 use mathlib.Core.Path.{_≡_, refl, sym, ap, _∙_}
@@ -11,8 +11,8 @@ use Prim.Native.Nat.{ℕ, zero, suc, _+_, _*_, _-_, _<_, _≤_}
 use native.Mathlib.Omega.{arith}
 use lib.ListN.{length, getD, drop}
 use borrow.Author.Tests.{le-leb, lt-leb, not-true, not-false}
-use Rattle.content.specs.Answer.{Answer, refused, given}
-use Rattle.content.proofs.Laws.Answer.{apart}
+use Rattle.answer.specs.Answer.{Answer, refused, answered}
+use Rattle.answer.proofs.Laws.{apart}
 use Rattle.sheet.specs.declared.Entry.{Entry}
 use Rattle.sheet.specs.declared.Trailer.{Trailer}
 use Rattle.sheet.specs.declared.Reading.{Reading}
@@ -27,7 +27,7 @@ use Rattle.sheet.proofs.Laws.Good.{good-is, too-short-is-bad, fair-trai
 -- ---- by good alone
 
 module _ (s : List ℕ) where
-  pub good-read : good s ≡ true → readOf s ≡ given (sheetIn s (numbersOf (trailerIn s)))
+  pub good-read : good s ≡ true → readOf s ≡ answered (sheetIn s (numbersOf (trailerIn s)))
   unfolding readOf
   good-read g = rw g
 
@@ -58,9 +58,9 @@ module _ (s : List ℕ) where
       pub read-bad-entries : (b : Bool) → b ≡ goodEntries (t .cells) (entriesOf (t .entries) s) → not b ≡ true → refused 13 ≡ readOf s
       read-bad-entries b tests off = sym (bad-read s (by-entries ∙ sym tests ∙ not-true b off))
 
-      pub read-good : (b : Bool) → b ≡ goodEntries (t .cells) (entriesOf (t .entries) s) → not b ≡ false → given (sheetIn s (numbersOf t)) ≡ readOf s
+      pub read-good : (b : Bool) → b ≡ goodEntries (t .cells) (entriesOf (t .entries) s) → not b ≡ false → answered (sheetIn s (numbersOf t)) ≡ readOf s
       read-good b tests off =
-          ap (λ (x : Trailer). given (sheetIn s (numbersOf x))) is ∙ sym (good-read s (by-entries ∙ sym tests ∙ not-false b off))
+          ap (λ (x : Trailer). answered (sheetIn s (numbersOf x))) is ∙ sym (good-read s (by-entries ∙ sym tests ∙ not-false b off))
 
 pub ruleset readings = (read-short, read-bad-trailer, read-room, read-bad-entries, read-good)
 
@@ -68,14 +68,14 @@ pub ruleset readings = (read-short, read-bad-trailer, read-room, read-bad-entrie
 
 abbrev again : Answer Sheet → Reading
 again (refused k) = reading.Refused k
-again (given sheet) = reading.Good (sheet .numbers)
+again (answered sheet) = reading.Good (sheet .numbers)
 
 found : (s : List ℕ) (a : Reading) → again (saidRead s a) ≡ a
 found s (reading.Good n) = refl
 found s (reading.Refused k) = refl
 
-pub said-read-tells-apart : (s : List ℕ) {a b : Reading} → saidRead s a ≡ saidRead s b → a ≡ b
-said-read-tells-apart s = apart (saidRead s) again (found s)
+pub saidRead-tells-apart : (s : List ℕ) {a b : Reading} → saidRead s a ≡ saidRead s b → a ≡ b
+saidRead-tells-apart s = apart (saidRead s) again (found s)
 
 -- ---- entries where they stand
 

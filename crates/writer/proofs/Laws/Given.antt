@@ -17,9 +17,9 @@ use Rattle.sheet.specs.Reading.{noEntry}
 use Rattle.sheet.specs.Values.{DaysFit, no-days, a-day}
 use Rattle.sheet.proofs.Laws.Layout.{entries-length, entries-append}
 use Rattle.sheet.proofs.Laws.Good.{SoFar, begun, turned, ended}
-use Rattle.writer.specs.Laying.{laidOver}
+use Rattle.laying.specs.Laying.{laidOver}
 use Rattle.writer.specs.Parts.{Tested}
-use Rattle.writer.proofs.Laws.Laying.{laid-next}
+use Rattle.laying.proofs.Laws.{laid-next}
 
 -- ---- one entry more
 

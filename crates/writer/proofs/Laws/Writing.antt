@@ -1,6 +1,6 @@
 -- Laws of `writtenOf`, `bufferOf` and `Writes` (specs/Writing.antt).
 --   writings                       a set for `search`: what `write` knows at each of its returns, and what it then leaves and answers
---   said-written-tells-apart       two answers that say the same are the same
+--   saidWritten-tells-apart       two answers that say the same are the same
 -- Assumes nothing.
 use mathlib.Core.Path.{_≡_, refl, sym, ap, _∙_}
 use mathlib.Core.List.{List, [], _∷_, _++_}
@@ -10,8 +10,8 @@ use native.Mathlib.Omega.{arith}
 use lib.ListN.{length, take, drop, length-append, length-take}
 use lib.Seq.{length-take-le}
 use borrow.Author.Tests.{lt-ltb, le-ltb, not-true, not-false}
-use Rattle.content.specs.Answer.{Answer, refused, given}
-use Rattle.content.proofs.Laws.Answer.{apart}
+use Rattle.answer.specs.Answer.{Answer, refused, answered}
+use Rattle.answer.proofs.Laws.{apart}
 use Rattle.sheet.specs.declared.Entry.{Entry}
 use Rattle.sheet.specs.declared.Numbers.{Numbers}
 use Rattle.sheet.specs.declared.Trailer.{Trailer}
@@ -23,10 +23,10 @@ use Rattle.sheet.proofs.Laws.Layout.{TrailerFits, entries-length, sheet-length}
 use Rattle.sheet.proofs.Laws.Good.{fair-trailer, sheet-bad, sheet-good}
 use Rattle.writer.specs.declared.Written.{Written}
 use Rattle.writer.specs.declared.Written.the-variants as written
-use Rattle.writer.specs.Laying.{laidOver}
+use Rattle.laying.specs.Laying.{laidOver}
 use Rattle.writer.specs.Parts.{Tested}
 use Rattle.writer.specs.Writing.{writtenOf, bufferOf, saidWritten, Writes}
-use Rattle.writer.proofs.Laws.Laying.{laid-next}
+use Rattle.laying.proofs.Laws.{laid-next}
 
 -- ---- by the sheet alone
 
@@ -115,11 +115,11 @@ pub ruleset writings = (write-too-many, write-bad-trailer, write-bad-entries, wr
 
 abbrev again : Answer ℕ → Written
 again (refused k) = written.Refused k
-again (given n) = written.Sheet n
+again (answered n) = written.Sheet n
 
 found : (a : Written) → again (saidWritten a) ≡ a
 found (written.Sheet n) = refl
 found (written.Refused k) = refl
 
-pub said-written-tells-apart : {a b : Written} → saidWritten a ≡ saidWritten b → a ≡ b
-said-written-tells-apart = apart saidWritten again found
+pub saidWritten-tells-apart : {a b : Written} → saidWritten a ≡ saidWritten b → a ≡ b
+saidWritten-tells-apart = apart saidWritten again found

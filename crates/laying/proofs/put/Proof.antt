@@ -1,13 +1,13 @@
--- `lay::put` meets its contract: what is laid so far is a part of what is to be laid (`PutSoFar`).
+-- `put` meets its contract: what is laid so far is a part of what is to be laid (`PutSoFar`).
 -- Assumes nothing.
 use borrow.Author.Needs.{needs}
 use mathlib.Core.Path.{sym}
 use Prim.Native.Nat.{_-_}
 use native.Mathlib.Omega.{arith}
 use lib.ListN.{length}
-use Rattle.writer.proofs.Laws.Laying.{no-room, PutSoFar, put-begun, put-turned, put-ended}
-use Rattle.writer.proofs.lay.put.Statement.{statement}
-use Rattle.writer.proofs.lay.put.Tie as tie
+use Rattle.laying.proofs.Laws.{no-room, PutSoFar, put-begun, put-turned, put-ended}
+use Rattle.laying.proofs.put.Statement.{statement}
+use Rattle.laying.proofs.put.Tie as tie
 
 abbrev Inv-loop : tie.InvT-loop
 Inv-loop buf₀ at src i₀ buf i = PutSoFar buf₀ at src buf i

@@ -11,7 +11,7 @@ use native.Mathlib.Numerals.{add-one}
 use lib.ListN.{length, getD, set, take, drop, length-append, length-set, length-drop}
 use lib.Seq.{paste, paste-zero, paste-suc, take-all, take-append-seam, drop-append-add, drop-drop}
 use borrow.Author.Tests.{le-leb, lt-leb}
-use Rattle.writer.specs.Laying.{laidOver}
+use Rattle.laying.specs.Laying.{laidOver}
 
 module _ (b : List ℕ) (at : ℕ) (x : List ℕ) where
   pub laid : at + length x ≤ length b → laidOver b at x ≡ take at b ++ x ++ drop (at + length x) b

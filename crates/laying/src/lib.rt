@@ -1,8 +1,9 @@
-// Bytes laid over others.
+// Bytes laid over others in a lent buffer: what every write comes to, of a sheet, a place in a tray, a
+// book, a listing or a record's bytes.
 ghost use mathlib.Core.Path.{_≡_};
-ghost use Rattle.writer.specs.Laying.{laidOver};
+ghost use Rattle.laying.specs.Laying.{laidOver};
 
-// Lays src over the buffer from `at` on; without room it leaves every byte.
+// Lays src over the buffer from `at` on; where it has no room there, every byte stays.
 pub fn put(buf: &mut [u8], at: usize, src: &[u8])
     ensures { λ _. ⌜ now (buf .exit) ≡ laidOver (now (buf .entry)) at (now (src .entry)) ⌝ }
 {

@@ -10,7 +10,7 @@ use mathlib.Core.List.{List, [], _∷_}
 -- a refusal's number alone, or the values of the call that was carried out
 pub data Answer (A : Type 0) : Type 0 where
   refused : ℕ → Answer A
-  given : A → Answer A
+  answered : A → Answer A
 
 -- a row of 01's table: a number, and whether it applies
 pub record Rule : Type 0 where
@@ -23,7 +23,7 @@ n if t = record { number = n; applies = t }
 
 -- the answer of a call with these rules, in their order: the first that applies, or else the values
 abbrev pub answer : {A : Type 0} → List Rule → A → Answer A
-answer [] a = given a
+answer [] a = answered a
 answer (r ∷ rs) a = cond (r .applies) (refused (r .number)) (answer rs a)
 
 -- what was lent to such a call, or its record: as before where a rule applies, or else as the call leaves it
