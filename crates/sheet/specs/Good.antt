@@ -38,7 +38,8 @@ kindAndDay e = eqb (e .kind) 1 && eqb (e .day) 0 || eqb (e .kind) 2
 abbrev pub within : ℕ → ℕ → ℕ → Bool
 within least most n = leb least n && leb n most
 
--- "A sheet is good if": a sheet has its trailer, and
+-- 01's table: a sheet has 12 bytes at least. (That it has 396 at most follows: `good-within` in proofs/Laws/Good.antt.) Then the
+-- clauses of "A sheet is good if", one to a line
 unfoldable pub good : List ℕ → Bool
 good s =
     let t = trailerIn s in

@@ -3,3 +3,4 @@ pub mod Good
 pub mod Parts
 pub mod Reading
 pub mod Values
+pub mod Promises

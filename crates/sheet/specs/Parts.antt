@@ -1,5 +1,5 @@
--- What the private functions test: the clauses of `good` that are the trailer's, and those that are the entries'. Nobody need believe
--- these: the promises of the public functions cite `good`, and that `good` is the two together is proved (proofs/Laws/Good.antt).
+-- The clauses of `good` by what they look at: what `good_trailer` and `good_entry` test, for whoever reads or writes a sheet part by part.
+-- `good` is all of them together: that is proved (`good-is` in proofs/Laws/Good.antt), and nobody need believe it.
 -- Assumes nothing.
 use Prim.Native.Nat.{ℕ, _*_, _%_}
 use mathlib.Core.Bool.{Bool, _&&_}

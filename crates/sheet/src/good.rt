@@ -29,14 +29,14 @@ pub fn good_trailer(t: Trailer, back: usize) -> bool
         & ((t.turn <= 4294967294) & (left_by(t.turn, t.desks) == (t.sender as u32)))
 }
 
-// An entry after those of the cells below `least`.
-pub fn good_entry(e: Entry, least: u16, cells: u8) -> bool
+// An entry behind those of the cells below `least`, in a sheet of so many cells.
+pub fn good_entry(cells: u8, least: u16, e: Entry) -> bool
     ensures { λ r. ⌜ r ≡ goodEntry cells least e ⌝ }
 {
     (least <= (e.cell as u16)) & (e.cell < cells) & ((e.kind == 1) & (e.day == 0) | (e.kind == 2))
 }
 
-// The first n entries.
+// The first n entries, each looked at once.
 pub(crate) fn good_entries(s: &[u8], n: u8, cells: u8) -> bool
     requires { ⌜ 6 * n ≤ length (now s) ⌝ }
     ensures { λ r. ⌜ r ≡ goodEntries cells (entriesOf n (now (s .entry))) ⌝ }
@@ -47,7 +47,7 @@ pub(crate) fn good_entries(s: &[u8], n: u8, cells: u8) -> bool
     let mut i: usize = 0;
     while i < count {
         let e = bytes::entry_from(s, 6 * i);
-        ok = ok & good_entry(e, least, cells);
+        ok = ok & good_entry(cells, least, e);
         least = (e.cell as u16) + 1;
         i += 1;
     }

@@ -4,7 +4,7 @@
 // and its entries stay in the slice, where `entry_at` reads them one by one. What a sheet is made of
 // is in specs/Layout.antt, what makes it good in specs/Good.antt.
 ghost use mathlib.Core.Path.{_≡_};
-ghost use Rattle.sheet.specs.Layout.{entryFor, contentIn};
+ghost use Rattle.sheet.specs.Layout.{entryFor, contentIn, numbersOf, trailerFor};
 ghost use Rattle.sheet.specs.Reading.{readOf, saidRead, entryAt};
 
 mod bytes;
@@ -67,6 +67,41 @@ impl Entry {
     }
 }
 
+impl Trailer {
+    // The numbers that the trailer carries.
+    pub fn numbers(self) -> Numbers
+        ensures { λ r. ⌜ r ≡ numbersOf self ⌝ }
+    {
+        let t = self;
+        Numbers {
+            entries: t.entries,
+            sender: t.sender,
+            desks: t.desks,
+            cells: t.cells,
+            turn: t.turn,
+        }
+    }
+}
+
+impl Numbers {
+    // The trailer that carries the numbers.
+    pub fn trailer(self) -> Trailer
+        ensures { λ r. ⌜ r ≡ trailerFor self ⌝ }
+    {
+        let n = self;
+        Trailer {
+            distance: 6 * (n.entries as u16),
+            entries: n.entries,
+            sender: n.sender,
+            desks: n.desks,
+            cells: n.cells,
+            zero6: 0,
+            zero7: 0,
+            turn: n.turn,
+        }
+    }
+}
+
 // 01, "Reading a sheet: 13." Any slice, of any length.
 pub fn read(s: &[u8]) -> Reading
     ensures { λ r. ⌜ saidRead (now (s .entry)) r ≡ readOf (now (s .entry)) ⌝ }
@@ -82,13 +117,7 @@ pub fn read(s: &[u8]) -> Reading
     if !good::good_entries(s, t.entries, t.cells) {
         return Reading::Refused(13);
     }
-    Reading::Good(Numbers {
-        entries: t.entries,
-        sender: t.sender,
-        desks: t.desks,
-        cells: t.cells,
-        turn: t.turn,
-    })
+    Reading::Good(t.numbers())
 }
 
 // Entry k of a sheet, counted from 0, where it stands; zeros where the slice ends before it does.

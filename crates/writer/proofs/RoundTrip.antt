@@ -1,4 +1,4 @@
--- Demand 2's two statements on sheets (specs/RoundTrip.antt), proved.
+-- Demand 2's two statements on sheets (specs/Promises.antt), proved.
 --   written-reads-back : WrittenReadsBack
 --   read-writes-back : ReadWritesBack
 -- Assumes nothing.
@@ -23,7 +23,7 @@ use Rattle.sheet.proofs.Laws.Layout.{entries-back, entries-count, trailer-back,
 use Rattle.sheet.proofs.Laws.Good.{FairTrailer, good-trailer-is-fair, good-length}
 use Rattle.sheet.proofs.Laws.Reading.{good-read}
 use Rattle.writer.specs.Writing.{writeRules, writtenOf, bufferOf}
-use Rattle.writer.specs.RoundTrip.{WrittenReadsBack, ReadWritesBack}
+use Rattle.writer.specs.Promises.{WrittenReadsBack, ReadWritesBack}
 use Rattle.writer.proofs.Laws.Writing.{trailer-fits}
 
 -- ---- a written sheet reads back

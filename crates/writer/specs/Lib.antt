@@ -1,3 +1,3 @@
 pub mod Writing
 pub mod Parts
-pub mod RoundTrip
+pub mod Promises

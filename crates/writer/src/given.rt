@@ -17,7 +17,7 @@ pub(crate) fn good_entries(es: [Entry; 64], n: usize, cells: u8) -> bool
     let mut i: usize = 0;
     while i < n {
         let e = es[i];
-        let fine = sheet::good_entry(e, least, cells);
+        let fine = sheet::good_entry(cells, least, e);
         ok = ok & fine;
         least = (e.cell as u16) + 1;
         i += 1;

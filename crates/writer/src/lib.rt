@@ -5,7 +5,7 @@
 // written. `put_entry` and `put_trailer` lay one part over a buffer, for a caller that writes a sheet
 // part by part.
 ghost use mathlib.Core.Path.{_≡_};
-ghost use Rattle.sheet.specs.Layout.{entryBytes, trailerBytes, trailerFor};
+ghost use Rattle.sheet.specs.Layout.{entryBytes, trailerBytes};
 ghost use Rattle.laying.specs.Laying.{laidOver};
 ghost use Rattle.writer.specs.Writing.{Writes};
 
@@ -19,22 +19,6 @@ pub enum Written {
     // The sheet's length.
     Sheet(usize),
     Refused(u8),
-}
-
-// The trailer that carries these numbers.
-pub fn trailer_for(n: Numbers) -> Trailer
-    ensures { λ r. ⌜ r ≡ trailerFor n ⌝ }
-{
-    Trailer {
-        distance: 6 * (n.entries as u16),
-        entries: n.entries,
-        sender: n.sender,
-        desks: n.desks,
-        cells: n.cells,
-        zero6: 0,
-        zero7: 0,
-        turn: n.turn,
-    }
 }
 
 // Lays an entry's 6 bytes over the buffer from `at` on; without room it leaves every byte.
@@ -78,7 +62,7 @@ pub fn write(buf: &mut [u8], n: Numbers, es: [Entry; 64]) -> Written
         return Written::Refused(13);
     }
     let back = 6 * count;
-    let t = trailer_for(n);
+    let t = n.trailer();
     if !sheet::good_trailer(t, back) {
         return Written::Refused(13);
     }

@@ -1,7 +1,6 @@
--- Tests of many parts: taken apart, put together, and put in another order.
---   and-split, and-join            both parts of `a && b`
+-- Tests of many parts: taken apart, and put in another order.
+--   and-split                      both parts of `a && b`
 --   in-any-order                   a set for `simp`: two conjunctions of the same tests are equal, in whatever order and bracketing
---   same-test                      two tests that imply each other are equal
 -- Assumes nothing.
 use mathlib.Core.Path.{_≡_, refl}
 use mathlib.Core.Bool.{Bool, true, false, _&&_, false≢true, and-assoc, and-comm}
@@ -9,9 +8,6 @@ use mathlib.Core.Bool.{Bool, true, false, _&&_, false≢true, and-assoc, and-com
 pub and-split : (a b : Bool) → a && b ≡ true → (a ≡ true) × (b ≡ true)
 and-split true b e = (refl, e)
 and-split false b e = absurd (false≢true e)
-
-pub and-join : {a b : Bool} → a ≡ true → b ≡ true → a && b ≡ true
-and-join p q = rw (p, q)
 
 pub and-left-comm : (a b c : Bool) → a && (b && c) ≡ b && (a && c)
 and-left-comm true true c = refl

@@ -26,6 +26,7 @@ use Rattle.sheet.specs.declared.Entry.{Entry}
 use Rattle.sheet.specs.declared.Trailer.{Trailer}
 use Rattle.sheet.specs.Layout.{trailerBytes, sheetBytes, entryOf, entriesOf, trailerIn, entryFor, contentIn}
 use Rattle.sheet.specs.Good.{every, nextAbove, rising, below, kindAndDay, within, good}
+use Rattle.sheet.specs.Promises.{OpenOrDay, is-open, is-day}
 use Rattle.sheet.specs.Values.{DaysFit}
 use Rattle.sheet.specs.Reading.{noEntry}
 use Rattle.sheet.specs.Parts.{goodTrailer, goodEntry, goodEntries}
@@ -225,11 +226,6 @@ module _ (es : List Entry) (t : Trailer) (tf : TrailerFits t) where
 
 -- ---- contents in entries
 
--- a good entry is open exactly with kind 1, and a day exactly with kind 2
-pub data OpenOrDay (e : Entry) : Type 0 where
-  is-open : e .kind ≡ 1 → contentIn e ≡ Open → OpenOrDay e
-  is-day : e .kind ≡ 2 → contentIn e ≡ Day (toZ w32 (e .day)) → OpenOrDay e
-
 pub open-or-day : (e : Entry) → kindAndDay e ≡ true → OpenOrDay e
 open-or-day e g = by-kind (eqb (e .kind) 2) refl
   where
@@ -243,7 +239,7 @@ open-or-day e g = by-kind (eqb (e .kind) 2) refl
         let k : e .kind ≡ 1 = eqb-true (e .kind) 1 (not-two (eqb (e .kind) 1) (eqb (e .day) 0) (rw p at g)) in
         is-open k (ap (λ (x : ℕ). contentOf x (toZ w32 (e .day))) k)
 
--- a blank has no good entry: "blank (never written)" is never sent
+-- 01: "Blank means never written": a blank has no good entry, and is never sent
 pub blank-is-never-sent : (cell : ℕ) → kindAndDay (entryFor cell Blank) ≡ false
 blank-is-never-sent cell = refl
 

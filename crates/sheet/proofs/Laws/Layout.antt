@@ -4,8 +4,7 @@
 --   entries-back, trailer-back         what was written as bytes is what the bytes hold
 --   sheet-again                        bytes that hold as many entries as they say are the sheet of what they hold
 --   content-in-entry                   an entry gives back the content it was made of
---   contents-apart                     two contents that are sent with the same bytes are the same
---   open-meets-no-day                  the bytes of an open entry are those of no day's
+--   contents-apart : ContentsApart, open-meets-no-day : OpenMeetsNoDay (specs/Promises.antt)
 -- Assumes nothing.
 use mathlib.Core.Path.{_≡_, refl, sym, ap, _∙_}
 use mathlib.Core.List.{List, [], _∷_, _++_}
@@ -27,6 +26,7 @@ use Rattle.content.specs.Content.{kindOf, dayOf, contentOf}
 use Rattle.content.proofs.Laws.Content.{content-again}
 use Rattle.sheet.specs.declared.Entry.{Entry}
 use Rattle.sheet.specs.declared.Trailer.{Trailer}
+use Rattle.sheet.specs.Promises.{ContentsApart, OpenMeetsNoDay}
 use Rattle.sheet.specs.Values.{AreBytes, DaysFit, no-days, a-day}
 use Rattle.sheet.specs.Layout.{entryBytes, entriesBytes, trailerBytes, sheetBytes, entryOf, entriesOf, trailerOf, trailerIn, entryFor, contentIn}
 
@@ -131,13 +131,12 @@ content-in-entry cell c h = rw (toZ-ofZ h) (content-again c)
 entry-back : (e : Entry) → e .day < 4294967296 → entryOf (entryBytes e) ≡ e
 entry-back e h = rw (num-bytes 4 (e .day) h)
 
--- two contents that are sent with the same bytes are the same content
-pub contents-apart : (cell : ℕ) (c d : Content) → SFits w32 (dayOf c) → SFits w32 (dayOf d) → entryBytes (entryFor cell c) ≡ entryBytes (entryFor cell d) → c ≡ d
+pub contents-apart : ContentsApart
 contents-apart cell c d hc hd same =
     sym (content-in-entry cell c hc)
     ∙ ap contentIn (sym (entry-back (entryFor cell c) (fits-ofZ hc .fits)) ∙ ap entryOf same ∙ entry-back (entryFor cell d) (fits-ofZ hd .fits))
     ∙ content-in-entry cell d hd
 
--- "treating kind 1 as a day of zero" is the slip: no day, and so not day 0, has the bytes of open in its cell
-pub open-meets-no-day : (cell : ℕ) (d : ℤ) → entryBytes (entryFor cell Open) ≡ entryBytes (entryFor cell (Day d)) → ⊥
+-- 01, "Slips to rule out": "treating kind 1 as a day of zero"
+pub open-meets-no-day : OpenMeetsNoDay
 open-meets-no-day cell d same = let z : _≡_ {A = ℕ} 1 2 = cc in omega arith

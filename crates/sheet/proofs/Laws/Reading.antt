@@ -1,28 +1,32 @@
 -- Laws of `readOf`, `saidRead` and `entryAt` (specs/Reading.antt).
 --   readings                     a set for `search`: what `read` knows at each of its returns, and what it then answers
 --   good-read, bad-read          what reading gives, by `good` alone
---   saidRead-tells-apart        two answers that say the same of the same bytes are the same
---   entries-in-place             entry k of a good sheet is what `entryAt` reads
+--   saidRead-tells-apart : ReadingsApart (specs/Promises.antt)
+--   entries-in-place : EntriesInPlace (specs/Promises.antt)
 -- Assumes nothing.
-use mathlib.Core.Path.{_≡_, refl, sym, ap, _∙_}
+use mathlib.Core.Path.{_≡_, refl, sym, ap, _∙_, subst, subst⁻¹}
 use mathlib.Core.List.{List, [], _∷_}
 use mathlib.Core.Bool.{Bool, true, false, not, cond, _&&_}
 use Prim.Native.Nat.{ℕ, zero, suc, _+_, _*_, _-_, _<_, _≤_}
 use native.Mathlib.Omega.{arith}
+use native.Mathlib.Nat.{not-suc-le-zero, le-of-suc-le-suc}
 use lib.ListN.{length, getD, drop}
-use borrow.Author.Tests.{le-leb, lt-leb, not-true, not-false}
-use Rattle.answer.specs.Answer.{Answer, refused, answered}
-use Rattle.answer.proofs.Laws.{apart}
+use borrow.Author.Tests.{le-leb, ltb-true, not-true, not-false}
+use Rattle.answer.specs.Answer.{Answer, refused, answered, _if_}
+use Rattle.answer.proofs.Laws.{answered-only-if, apart}
 use Rattle.sheet.specs.declared.Entry.{Entry}
+use Rattle.sheet.specs.declared.Numbers.{Numbers}
 use Rattle.sheet.specs.declared.Trailer.{Trailer}
 use Rattle.sheet.specs.declared.Reading.{Reading}
 use Rattle.sheet.specs.declared.Reading.the-variants as reading
 use Rattle.sheet.specs.Layout.{entryOf, entriesOf, trailerIn, numbersOf}
-use Rattle.sheet.specs.Good.{good}
+use Rattle.sheet.specs.Good.{every, rising, below, kindAndDay, good}
 use Rattle.sheet.specs.Parts.{goodTrailer, goodEntries}
 use Rattle.sheet.specs.Reading.{Sheet, sheetIn, readOf, saidRead, noEntry, entryAt}
-use Rattle.sheet.proofs.Laws.Layout.{entry-of-entries}
-use Rattle.sheet.proofs.Laws.Good.{good-is, too-short-is-bad, fair-trailer, good-length}
+use Rattle.sheet.specs.Promises.{GoodEntry, EntriesStand, EntriesInPlace, ReadingsApart}
+use Rattle.sheet.proofs.Laws.Bools.{and-split}
+use Rattle.sheet.proofs.Laws.Layout.{entries-count, entry-of-entries}
+use Rattle.sheet.proofs.Laws.Good.{good-is, too-short-is-bad, fair-trailer, good-length, good-entries-are, open-or-day}
 
 -- ---- by good alone
 
@@ -58,9 +62,9 @@ module _ (s : List ℕ) where
       pub read-bad-entries : (b : Bool) → b ≡ goodEntries (t .cells) (entriesOf (t .entries) s) → not b ≡ true → refused 13 ≡ readOf s
       read-bad-entries b tests off = sym (bad-read s (by-entries ∙ sym tests ∙ not-true b off))
 
-      pub read-good : (b : Bool) → b ≡ goodEntries (t .cells) (entriesOf (t .entries) s) → not b ≡ false → answered (sheetIn s (numbersOf t)) ≡ readOf s
-      read-good b tests off =
-          ap (λ (x : Trailer). answered (sheetIn s (numbersOf x))) is ∙ sym (good-read s (by-entries ∙ sym tests ∙ not-false b off))
+      pub read-good : (b : Bool) → b ≡ goodEntries (t .cells) (entriesOf (t .entries) s) → not b ≡ false → (n : Numbers) → n ≡ numbersOf t → answered (sheetIn s n) ≡ readOf s
+      read-good b tests off n numbers =
+          ap (λ (x : Numbers). answered (sheetIn s x)) (numbers ∙ ap numbersOf is) ∙ sym (good-read s (by-entries ∙ sym tests ∙ not-false b off))
 
 pub ruleset readings = (read-short, read-bad-trailer, read-room, read-bad-entries, read-good)
 
@@ -74,12 +78,39 @@ found : (s : List ℕ) (a : Reading) → again (saidRead s a) ≡ a
 found s (reading.Good n) = refl
 found s (reading.Refused k) = refl
 
-pub saidRead-tells-apart : (s : List ℕ) {a b : Reading} → saidRead s a ≡ saidRead s b → a ≡ b
-saidRead-tells-apart s = apart (saidRead s) again (found s)
+pub saidRead-tells-apart : ReadingsApart
+saidRead-tells-apart s a b = apart (saidRead s) again (found s)
 
 -- ---- entries where they stand
 
-pub entries-in-place : (s : List ℕ) → good s ≡ true → (k : ℕ) → k < trailerIn s .entries → entryAt s k ≡ getD (entriesOf (trailerIn s .entries) s) k noEntry
-entries-in-place s g k h =
+entry-in-place : (s : List ℕ) → good s ≡ true → (k : ℕ) → k < trailerIn s .entries → entryAt s k ≡ getD (entriesOf (trailerIn s .entries) s) k noEntry
+entry-in-place s g k h =
     rw (le-leb (6 * k + 6) (length s) (omega (arith, good-length s g)))
     (sym (entry-of-entries (trailerIn s .entries) k s noEntry h))
+
+-- a test of every entry, at one of them
+at-entry : (p : Entry → Bool) (es : List Entry) (k : ℕ) → k < length es → every p es ≡ true → p (getD es k noEntry) ≡ true
+at-entry p [] k h g = absurd (not-suc-le-zero h)
+at-entry p (e ∷ es) zero h g = and-split (p e) (every p es) g .0
+at-entry p (e ∷ es) (suc k) h g = at-entry p es k (le-of-suc-le-suc h) (and-split (p e) (every p es) g .1)
+
+good-one : (s : List ℕ) → good s ≡ true → (k : ℕ) → k < trailerIn s .entries → GoodEntry (trailerIn s .cells) (entryAt s k)
+good-one s g k h =
+    let t = trailerIn s in
+    let es = entriesOf (t .entries) s in
+    let tests = and-split (rising es && every (below (t .cells)) es) (every kindAndDay es) (good-entries-are s g) in
+    let lows = and-split (rising es) (every (below (t .cells)) es) (tests .0) .1 in
+    let long : k < length es = omega (arith, entries-count (t .entries) s) in
+    subst⁻¹ (GoodEntry (t .cells)) (entry-in-place s g k h)
+    (record {
+      cell-below = ltb-true _ _ (at-entry (below (t .cells)) es k long lows);
+      open-or-day = open-or-day (getD es k noEntry) (at-entry kindAndDay es k long (tests .1));
+    })
+
+pub entries-in-place : EntriesInPlace
+unfolding readOf
+entries-in-place s sheet e =
+    let carried-out = answered-only-if (13 if not (good s) ∷ []) (sheetIn s (numbersOf (trailerIn s))) sheet e in
+    let g : good s ≡ true = not-false (good s) (carried-out .0 .0) in
+    subst (EntriesStand s) (carried-out .1)
+    (record { count = entries-count (trailerIn s .entries) s; in-place = entry-in-place s g; good-one = good-one s g })

@@ -26,6 +26,9 @@ good-entries-requires c κs = search (readings, needs)
 returns-3 : tie.Need-returns-3
 returns-3 c = search (readings, needs)
 
+numbers-requires : tie.Need-numbers-requires
+numbers-requires c κs = search needs
+
 returns-4 : tie.Need-returns-4
 returns-4 c = search (readings, needs)
 
@@ -40,4 +43,5 @@ read-spec =
     returns-2
     good-entries-requires
     returns-3
+    numbers-requires
     returns-4)

@@ -1,6 +1,6 @@
 -- Laws of `writtenOf`, `bufferOf` and `Writes` (specs/Writing.antt).
 --   writings                       a set for `search`: what `write` knows at each of its returns, and what it then leaves and answers
---   saidWritten-tells-apart       two answers that say the same are the same
+--   saidWritten-tells-apart : WritingsApart (specs/Promises.antt)
 -- Assumes nothing.
 use mathlib.Core.Path.{_≡_, refl, sym, ap, _∙_}
 use mathlib.Core.List.{List, [], _∷_, _++_}
@@ -25,6 +25,7 @@ use Rattle.writer.specs.declared.Written.{Written}
 use Rattle.writer.specs.declared.Written.the-variants as written
 use Rattle.laying.specs.Laying.{laidOver}
 use Rattle.writer.specs.Parts.{Tested}
+use Rattle.writer.specs.Promises.{WritingsApart}
 use Rattle.writer.specs.Writing.{writtenOf, bufferOf, saidWritten, Writes}
 use Rattle.laying.proofs.Laws.{laid-next}
 
@@ -121,5 +122,5 @@ found : (a : Written) → again (saidWritten a) ≡ a
 found (written.Sheet n) = refl
 found (written.Refused k) = refl
 
-pub saidWritten-tells-apart : {a b : Written} → saidWritten a ≡ saidWritten b → a ≡ b
-saidWritten-tells-apart = apart saidWritten again found
+pub saidWritten-tells-apart : WritingsApart
+saidWritten-tells-apart a b = apart saidWritten again found

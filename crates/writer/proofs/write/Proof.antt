@@ -14,8 +14,8 @@ returns c = search (writings, needs)
 mul-back : tie.Need-mul-back
 mul-back c = search needs
 
-trailer-for-requires : tie.Need-trailer-for-requires
-trailer-for-requires c κs = search needs
+trailer-requires : tie.Need-trailer-requires
+trailer-requires c κs = search needs
 
 good-trailer-requires : tie.Need-good-trailer-requires
 good-trailer-requires c κs = search needs
@@ -54,7 +54,7 @@ write-spec =
     cast-count
     returns
     mul-back
-    trailer-for-requires
+    trailer-requires
     good-trailer-requires
     returns-2
     good-entries-requires

@@ -1,5 +1,6 @@
 -- Demand 2: "a written sheet reads back as the entries sent, and a good sheet's entries and trailer numbers write the same bytes again."
--- Both as statements over the definitions of reading and writing; their proofs are in proofs/RoundTrip.antt.
+-- Both as statements over the definitions of reading and writing, proved in proofs/RoundTrip.antt; and that no two answers say the same,
+-- proved in proofs/Laws/Writing.antt.
 -- Assumes nothing.
 use mathlib.Core.Path.{_≡_}
 use mathlib.Core.List.{List, _++_}
@@ -10,7 +11,8 @@ use Rattle.sheet.specs.declared.Entry.{Entry}
 use Rattle.sheet.specs.declared.Numbers.{Numbers}
 use Rattle.sheet.specs.Reading.{Sheet, readOf}
 use Rattle.sheet.specs.Values.{AreBytes, DaysFit, NumbersFit}
-use Rattle.writer.specs.Writing.{writtenOf, bufferOf}
+use Rattle.writer.specs.declared.Written.{Written}
+use Rattle.writer.specs.Writing.{writtenOf, bufferOf, saidWritten}
 
 -- "a written sheet reads back as the entries sent": whatever was written, the part of the buffer that the answer names reads as the
 -- numbers given and as many of the entries given as they say
@@ -26,3 +28,7 @@ ReadWritesBack =
     (s : List ℕ) (sheet : Sheet) (more : List Entry) (buf : List ℕ) → AreBytes s → readOf s ≡ answered sheet → length s ≤ length buf
     → (writtenOf (sheet .numbers) (sheet .entries ++ more) buf ≡ answered (length s))
     × (bufferOf (sheet .numbers) (sheet .entries ++ more) buf ≡ s ++ drop (length s) buf)
+
+-- two different answers never say the same
+abbrev pub WritingsApart : Type 0
+WritingsApart = (a b : Written) → saidWritten a ≡ saidWritten b → a ≡ b

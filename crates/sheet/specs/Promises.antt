@@ -1,0 +1,51 @@
+-- What is promised of sheets beside the calls' contracts. proofs/Laws proves each.
+-- Assumes nothing.
+use mathlib.Core.Path.{_≡_}
+use mathlib.Core.List.{List}
+use Prim.Native.Nat.{ℕ, _<_}
+use lib.IntN.{ℤ}
+use lib.ListN.{length, getD}
+use mir.Syntax.{w32}
+use mir.Val.{SFits, toZ}
+use Rattle.answer.specs.Answer.{answered}
+use Rattle.content.specs.declared.Content.{Content}
+use Rattle.content.specs.declared.Content.the-variants.{Open, Day}
+use Rattle.content.specs.Content.{dayOf}
+use Rattle.sheet.specs.declared.Entry.{Entry}
+use Rattle.sheet.specs.declared.Reading.{Reading}
+use Rattle.sheet.specs.Layout.{entryBytes, entryFor, contentIn}
+use Rattle.sheet.specs.Reading.{Sheet, readOf, saidRead, noEntry, entryAt}
+
+-- ---- a good sheet gives its entries, where they stand
+
+-- kind 1 is open and never a day; kind 2 is a day and never open
+pub data OpenOrDay (e : Entry) : Type 0 where
+  is-open : e .kind ≡ 1 → contentIn e ≡ Open → OpenOrDay e
+  is-day : e .kind ≡ 2 → contentIn e ≡ Day (toZ w32 (e .day)) → OpenOrDay e
+
+pub record GoodEntry (cells : ℕ) (e : Entry) : Type 0 where
+  pub cell-below : e .cell < cells
+  pub open-or-day : OpenOrDay e
+
+pub record EntriesStand (s : List ℕ) (sheet : Sheet) : Type 0 where
+  pub count : length (sheet .entries) ≡ sheet .numbers .entries
+  pub in-place : (k : ℕ) → k < sheet .numbers .entries → entryAt s k ≡ getD (sheet .entries) k noEntry
+  pub good-one : (k : ℕ) → k < sheet .numbers .entries → GoodEntry (sheet .numbers .cells) (entryAt s k)
+
+abbrev pub EntriesInPlace : Type 0
+EntriesInPlace = (s : List ℕ) (sheet : Sheet) → readOf s ≡ answered sheet → EntriesStand s sheet
+
+-- two different answers never say the same of the same bytes
+abbrev pub ReadingsApart : Type 0
+ReadingsApart = (s : List ℕ) (a b : Reading) → saidRead s a ≡ saidRead s b → a ≡ b
+
+-- ---- "empty is not zero and not yesterday", on the line
+
+-- two contents that are sent with the same bytes are the same content; the premises say that the days have 32 bits
+abbrev pub ContentsApart : Type 0
+ContentsApart =
+    (cell : ℕ) (c d : Content) → SFits w32 (dayOf c) → SFits w32 (dayOf d) → entryBytes (entryFor cell c) ≡ entryBytes (entryFor cell d) → c ≡ d
+
+-- no day, and so not day 0, has the bytes of open
+abbrev pub OpenMeetsNoDay : Type 0
+OpenMeetsNoDay = (cell : ℕ) (d : ℤ) → entryBytes (entryFor cell Open) ≡ entryBytes (entryFor cell (Day d)) → ⊥
