@@ -1,7 +1,9 @@
 -- Laws of `answer` and `leaves` (specs/Answer.antt), the same for every call.
---   answered-only-if, answered-if, changed-if        a call is carried out exactly if no rule applies
---   refused-is-not-answered                       a refusal is no other answer
---   apart                                      answers with different meanings: shown by a function that finds the answer from what it says
+--   answered-only-if, answered-if, changed-if      a call is carried out exactly if no rule applies
+--   refused-only-if, refused-if, unchanged-if      it is refused with k exactly if the first rule that applies has the number k, and
+--                                                  changes nothing then
+--   refused-is-not-answered                        a refusal is no other answer
+--   apart, again                                   answers have different meanings: shown by a function, mostly `again`, that finds the answer
 -- Assumes nothing.
 use mathlib.Core.Path.{_≡_, refl, sym, ap, _∙_}
 use mathlib.Core.Bool.{Bool, true, false, cond}
@@ -21,6 +23,11 @@ refused-is-not-answered k a e = let z : _≡_ {A = ℕ} 0 1 = cc in omega arith
 same-answered : {A : Type 0} (a b : A) → answered a ≡ answered b → a ≡ b
 same-answered a b e = cc
 
+same-number : {A : Type 0} (j k : ℕ) (a : A) → _≡_ {A = Answer A} (refused j) (refused k) → j ≡ k
+same-number j k a e = cc
+
+-- ---- carried out
+
 pub answered-only-if : {A : Type 0} (rs : List Rule) (a b : A) → answer rs a ≡ answered b → Silent rs × (a ≡ b)
 answered-only-if [] a b e = (tt, same-answered a b e)
 answered-only-if (r ∷ rs) a b e = by-test (answered-only-if rs a b) (r .applies) refl
@@ -37,14 +44,36 @@ pub changed-if : {A : Type 0} (rs : List Rule) (before after : A) → Silent rs 
 changed-if [] before after s = refl
 changed-if (r ∷ rs) before after s = rw (s .0) (changed-if rs before after (s .1))
 
+-- ---- refused
+
+-- the rule with this number is the first that applies
+pub data First (k : ℕ) : List Rule → Type 0 where
+  this : {r : Rule} {rs : List Rule} → r .applies ≡ true → r .number ≡ k → First k (r ∷ rs)
+  later : {r : Rule} {rs : List Rule} → r .applies ≡ false → First k rs → First k (r ∷ rs)
+
+pub refused-only-if : {A : Type 0} (rs : List Rule) (a : A) (k : ℕ) → answer rs a ≡ refused k → First k rs
+refused-only-if [] a k e = absurd (refused-is-not-answered k a (sym e))
+refused-only-if (r ∷ rs) a k e = by-test (refused-only-if rs a k) (r .applies) refl
+  where
+    by-test : (answer rs a ≡ refused k → First k rs) → (t : Bool) → r .applies ≡ t → First k (r ∷ rs)
+    by-test rest true p = this p (same-number (r .number) k a (sym (rw p) ∙ e))
+    by-test rest false p = later p (rest (sym (rw p) ∙ e))
+
+pub refused-if : {A : Type 0} {rs : List Rule} {k : ℕ} (a : A) → First k rs → answer rs a ≡ refused k
+refused-if a (this p n) = rw p (ap refused n)
+refused-if a (later p f) = rw p (refused-if a f)
+
+-- "and the record and all lent bytes are as before"
+pub unchanged-if : {A : Type 0} {rs : List Rule} {k : ℕ} (before after : A) → First k rs → leaves rs before after ≡ before
+unchanged-if before after (this p n) = rw p
+unchanged-if before after (later p f) = rw p (unchanged-if before after f)
+
+-- ---- meanings
+
+-- the case of an enum that says this, where one case is for a refusal and the others for values
+abbrev pub again : {A E : Type 0} → (ℕ → E) → (A → E) → Answer A → E
+again no-value value (refused k) = no-value k
+again no-value value (answered a) = value a
+
 pub apart : {A B : Type 0} (said : A → B) (again : B → A) → ((a : A) → again (said a) ≡ a) → {a b : A} → said a ≡ said b → a ≡ b
 apart said again found {a} {b} same = sym (found a) ∙ ap again same ∙ found b
-
--- "The answer is then that number alone, and the record and all lent bytes are as before."
-pub unchanged-if-refused : {A B : Type 0} (rs : List Rule) (b : B) (k : ℕ) (before after : A) → answer rs b ≡ refused k → leaves rs before after ≡ before
-unchanged-if-refused [] b k before after e = absurd (refused-is-not-answered k b (sym e))
-unchanged-if-refused (r ∷ rs) b k before after e = by-test (unchanged-if-refused rs b k before after) (r .applies) refl
-  where
-    by-test : (answer rs b ≡ refused k → leaves rs before after ≡ before) → (t : Bool) → r .applies ≡ t → leaves (r ∷ rs) before after ≡ before
-    by-test rest true p = rw p
-    by-test rest false p = rw p (rest (sym (rw p) ∙ e))

@@ -11,7 +11,8 @@ use lib.Signed.{nonNeg}
 use mir.Facts.{toZ-ofZ, toZ-pos}
 use mir.Syntax.{w32}
 use mir.Val.{Fits, SFits, toZ, ofZ}
-use Rattle.calendar.specs.Calendar.{isDay, daysInAll}
+use Rattle.calendar.specs.Calendar.{isDay}
+use Rattle.calendar.specs.Parts.{daysInAll}
 use Rattle.calendar.proofs.Laws.Day.{index, is-day, day-fits}
 
 -- ---- a date's number

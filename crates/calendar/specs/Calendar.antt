@@ -61,8 +61,8 @@ unfoldable pub numberOf : Date → ℤ
 numberOf t = pos (daysTo t) -ℤ pos (daysTo dayZero)
 
 -- date to day number
-unfoldable pub dayOf : Date → Answer ℤ
-dayOf t = answer (22 if not (isDate t) ∷ []) (numberOf t)
+unfoldable pub dayNumberOf : Date → Answer ℤ
+dayNumberOf t = answer (22 if not (isDate t) ∷ []) (numberOf t)
 
 -- ---- a day's date
 
@@ -90,10 +90,6 @@ dateAt i =
 -- "days -25,202 to 84,006"
 unfoldable pub isDay : ℤ → Bool
 isDay z = leZ (negsuc 25201) z && leZ z (pos 84006)
-
--- so many in all: 25,202 before day 0, day 0, and 84,006 after it
-abbrev pub daysInAll : ℕ
-daysInAll = 109209
 
 -- day number to date
 unfoldable pub dateOf : ℤ → Answer Date

@@ -1,3 +1,4 @@
 pub mod Spans
 pub mod Calendar
+pub mod Parts
 pub mod Promises

@@ -6,11 +6,13 @@ use mathlib.Core.Bool.{true}
 use lib.IntN.{ℤ, pos, negsuc, sucℤ}
 use Rattle.answer.specs.Answer.{refused, answered}
 use Rattle.calendar.specs.declared.Date.{Date}
-use Rattle.calendar.specs.Calendar.{isDate, isDay, dayZero, numberOf, dayOf, dateOf, nextDate, lastDate}
+use Rattle.calendar.specs.declared.DayAnswer.{DayAnswer}
+use Rattle.calendar.specs.declared.DateAnswer.{DateAnswer}
+use Rattle.calendar.specs.Calendar.{isDate, isDay, dayZero, numberOf, dayNumberOf, dateOf, nextDate, lastDate, saidDay, saidDate}
 
 -- date to day number and back: a date has a day's number, and that day's date is the date
 pub record DateComesBack (t : Date) : Type 0 where
-  pub numbered : dayOf t ≡ answered (numberOf t)
+  pub numbered : dayNumberOf t ≡ answered (numberOf t)
   pub in-range : isDay (numberOf t) ≡ true
   pub back : dateOf (numberOf t) ≡ answered t
 
@@ -22,7 +24,7 @@ pub record DayComesBack (z : ℤ) : Type 0 where
   pub date : Date
   pub dated : dateOf z ≡ answered date
   pub in-range : isDate date ≡ true
-  pub back : dayOf date ≡ answered z
+  pub back : dayNumberOf date ≡ answered z
 
 abbrev pub DaysComeBack : Type 0
 DaysComeBack = (z : ℤ) → isDay z ≡ true → DayComesBack z
@@ -41,9 +43,19 @@ NextDays = (z : ℤ) (t : Date) → dateOf z ≡ answered t → isDay (sucℤ z)
 
 -- the calendar's two ends and what lies past them, day 0, and the day before it
 pub record Ends : Type 0 where
-  pub first : dayOf (record { year = 1901; month = 1; day = 1 }) ≡ answered (negsuc 25201)
-  pub last : dayOf lastDate ≡ answered (pos 84006)
+  pub first : dayNumberOf (record { year = 1901; month = 1; day = 1 }) ≡ answered (negsuc 25201)
+  pub last : dayNumberOf lastDate ≡ answered (pos 84006)
   pub before-first : dateOf (negsuc 25202) ≡ refused 22
   pub after-last : dateOf (pos 84007) ≡ refused 22
+  pub year-1900 : dayNumberOf (record { year = 1900; month = 12; day = 31 }) ≡ refused 22
+  pub year-2200 : dayNumberOf (record { year = 2200; month = 1; day = 1 }) ≡ refused 22
+  pub no-leap-day-1901 : dayNumberOf (record { year = 1901; month = 2; day = 29 }) ≡ refused 22
   pub zero : dateOf (pos 0) ≡ answered dayZero
   pub before-zero : dateOf (negsuc 0) ≡ answered (record { year = 1969; month = 12; day = 31 })
+
+-- two different answers never say the same
+abbrev pub DaysApart : Type 0
+DaysApart = (a b : DayAnswer) → saidDay a ≡ saidDay b → a ≡ b
+
+abbrev pub DatesApart : Type 0
+DatesApart = (a b : DateAnswer) → saidDate a ≡ saidDate b → a ≡ b

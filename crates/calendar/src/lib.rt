@@ -6,7 +6,8 @@
 ghost use mathlib.Core.Path.{_≡_};
 ghost use mathlib.Core.Bool.{true};
 ghost use Prim.Native.Nat.{_<_};
-ghost use Rattle.calendar.specs.Calendar.{isDate, isDay, daysTo, dateAt, daysInAll, dayOf, dateOf, saidDay, saidDate};
+ghost use Rattle.calendar.specs.Calendar.{isDate, isDay, daysTo, dateAt, dayNumberOf, dateOf, saidDay, saidDate};
+ghost use Rattle.calendar.specs.Parts.{daysInAll};
 use month::days_before_month;
 use month::length_of;
 use month::month_of;
@@ -38,7 +39,7 @@ pub enum DateAnswer {
 impl Date {
     // The number of the date's day; 22 where it is no date of the calendar.
     pub fn number(self) -> DayAnswer
-        ensures { λ r. ⌜ saidDay r ≡ dayOf self ⌝ }
+        ensures { λ r. ⌜ saidDay r ≡ dayNumberOf self ⌝ }
     {
         if self.is_date() {
             return DayAnswer::Day((self.days_to() as i32) - 25202);

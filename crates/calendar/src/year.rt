@@ -4,7 +4,8 @@
 ghost use mathlib.Core.Path.{_≡_};
 ghost use Prim.Native.Nat.{_<_, _≤_};
 ghost use Rattle.calendar.specs.Spans.{before, spanOf};
-ghost use Rattle.calendar.specs.Calendar.{leap, yearLength, daysInAll};
+ghost use Rattle.calendar.specs.Calendar.{leap, yearLength};
+ghost use Rattle.calendar.specs.Parts.{daysInAll};
 
 pub(crate) fn is_leap(year: u16) -> bool
     ensures { λ r. ⌜ r ≡ leap year ⌝ }

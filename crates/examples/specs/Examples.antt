@@ -5,18 +5,18 @@ use mathlib.Core.Path.{_≡_}
 use mathlib.Core.List.{List, [], _∷_, map}
 use Prim.Native.Nat.{ℕ}
 use lib.IntN.{ℤ, pos, negsuc}
+use lib.ListN.{length, drop, replicate}
 use Rattle.answer.specs.Answer.{Answer, answered}
 use Rattle.content.specs.declared.Content.the-variants.{Blank, Day}
 use Rattle.content.specs.Standing.{Stands, unknown, left, standingOn}
-use lib.ListN.{drop}
 use Rattle.calendar.specs.declared.Date.{Date}
-use Rattle.calendar.specs.Calendar.{dayOf}
+use Rattle.calendar.specs.Calendar.{dayNumberOf}
 use Rattle.sheet.specs.declared.Entry.{Entry}
 use Rattle.sheet.specs.declared.Numbers.{Numbers}
 use Rattle.sheet.specs.Layout.{entryFor, entryBytes}
 use Rattle.writer.specs.Writing.{writtenOf, bufferOf}
 
--- what the examples speak of
+-- what the examples speak of: bytes, the answer of a writing with the buffer after it, a standing, a day
 pub data Value : Type 0 where
   bytes : List ℕ → Value
   sheet : Answer ℕ → List ℕ → Value
@@ -29,12 +29,14 @@ pub record Case : Type 0 where
   pub made : Value
   pub says : Value
 
--- the sheet of desk 0 of 2, 2 cells, at turn 0, with these entries
+-- "Desk 0 of 2, 2 cells, .. at turn 0", with so many entries
 abbrev pub atTurn0 : ℕ → Numbers
 atTurn0 n = record { entries = n; sender = 0; desks = 2; cells = 2; turn = 0 }
 
-unfoldable pub written : ℕ → List Entry → List ℕ → Value
-written n es buf = sheet (writtenOf (atTurn0 n) es buf) (bufferOf (atTurn0 n) es buf)
+-- its sheet with these entries, written into a buffer of so many sevens
+unfoldable pub written : List Entry → ℕ → Value
+written es room =
+    sheet (writtenOf (atTurn0 (length es)) es (replicate room 7)) (bufferOf (atTurn0 (length es)) es (replicate room 7))
 
 abbrev pub dateOf2000 : ℕ → ℕ → Date
 dateOf2000 m d = record { year = 2000; month = m; day = d }
@@ -44,13 +46,13 @@ cases =
     -- "Desk 0 of 2, 2 cells, sends day 0 in cell 1 at turn 0: `01 02 00 00 00 00 06 00 01 00 02 02 00 00 00 00 00 00`."
     record {
       example = 1;
-      made = written 1 (entryFor 1 (Day (pos 0)) ∷ []) (7 ∷ 7 ∷ 7 ∷ 7 ∷ 7 ∷ 7 ∷ 7 ∷ 7 ∷ 7 ∷ 7 ∷ 7 ∷ 7 ∷ 7 ∷ 7 ∷ 7 ∷ 7 ∷ 7 ∷ 7 ∷ []);
+      made = written (entryFor 1 (Day (pos 0)) ∷ []) 18;
       says = sheet (answered 18) (0x01 ∷ 0x02 ∷ 0x00 ∷ 0x00 ∷ 0x00 ∷ 0x00 ∷ 0x06 ∷ 0x00 ∷ 0x01 ∷ 0x00 ∷ 0x02 ∷ 0x02 ∷ 0x00 ∷ 0x00 ∷ 0x00 ∷ 0x00 ∷ 0x00 ∷ 0x00 ∷ []);
     }
     -- "Nothing pending there: `00 00 00 00 02 02 00 00 00 00 00 00`."
     ∷ record {
       example = 2;
-      made = written 0 [] (7 ∷ 7 ∷ 7 ∷ 7 ∷ 7 ∷ 7 ∷ 7 ∷ 7 ∷ 7 ∷ 7 ∷ 7 ∷ 7 ∷ []);
+      made = written [] 12;
       says = sheet (answered 12) (0x00 ∷ 0x00 ∷ 0x00 ∷ 0x00 ∷ 0x02 ∷ 0x02 ∷ 0x00 ∷ 0x00 ∷ 0x00 ∷ 0x00 ∷ 0x00 ∷ 0x00 ∷ []);
     }
     -- "Day -1 is `FF FF FF FF`."
@@ -60,8 +62,8 @@ cases =
     ∷ record { example = 7; made = standing (standingOn (Day (pos 0)) (pos 1)); says = standing (left (negsuc 0)) }
     ∷ record { example = 7; made = standing (standingOn Blank (pos 1)); says = standing unknown }
     -- "1 January 2000 is 10,957 and 29 February 2000 is 11,016."
-    ∷ record { example = 8; made = day (dayOf (dateOf2000 1 1)); says = day (answered (pos 10957)) }
-    ∷ record { example = 8; made = day (dayOf (dateOf2000 2 29)); says = day (answered (pos 11016)) }
+    ∷ record { example = 8; made = day (dayNumberOf (dateOf2000 1 1)); says = day (answered (pos 10957)) }
+    ∷ record { example = 8; made = day (dayNumberOf (dateOf2000 2 29)); says = day (answered (pos 11016)) }
     ∷ []
 
 -- the definitions make of every case what 01 says

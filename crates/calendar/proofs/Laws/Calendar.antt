@@ -2,7 +2,7 @@
 --   dates-come-back, days-come-back     date to day number and back undo each other
 --   next-dates, next-days               days that follow one another have numbers that do
 --   ends                                the calendar's ends, by computation
---   saidDay-tells-apart, saidDate-tells-apart     two answers that say the same are the same
+--   saidDay-tells-apart, saidDate-tells-apart     no two answers say the same
 -- Assumes nothing.
 use mathlib.Core.Path.{_≡_, refl, ap, sym, _∙_}
 use mathlib.Core.Bool.{Bool, true, false}
@@ -11,23 +11,24 @@ use Prim.Native.Nat.{ℕ, zero, suc, _+_, _-_, _<_}
 use native.Mathlib.Nat.{eq-or-lt-of-le}
 use native.Mathlib.Omega.{arith}
 use lib.IntN.{ℤ, pos, negsuc, sucℤ, natAbs, _+ℤ_, _-ℤ_, sucℤ-+ℤ, -ℤ-+ℤ-cancel}
-use Rattle.answer.specs.Answer.{Answer, refused, answered}
-use Rattle.answer.proofs.Laws.{apart}
+use Rattle.answer.specs.Answer.{refused, answered}
+use Rattle.answer.proofs.Laws.{again, apart}
 use Rattle.calendar.specs.Spans.{before, spanOf}
 use Rattle.calendar.specs.declared.Date.{Date}
 use Rattle.calendar.specs.declared.DayAnswer.{DayAnswer}
 use Rattle.calendar.specs.declared.DayAnswer.the-variants as day
 use Rattle.calendar.specs.declared.DateAnswer.{DateAnswer}
 use Rattle.calendar.specs.declared.DateAnswer.the-variants as date
-use Rattle.calendar.specs.Calendar.{lengthIn, yearLength, isDate, daysTo, numberOf, dayOf, dateAt, isDay, daysInAll, dateOf, nextDate, lastDate, saidDay, saidDate}
-use Rattle.calendar.specs.Promises.{DatesComeBack, DaysComeBack, NextIsOneMore, NextDates, NextDays, Ends}
+use Rattle.calendar.specs.Calendar.{lengthIn, yearLength, isDate, daysTo, numberOf, dayNumberOf, dateAt, isDay, dateOf, nextDate, lastDate, saidDay, saidDate}
+use Rattle.calendar.specs.Parts.{daysInAll}
+use Rattle.calendar.specs.Promises.{DatesComeBack, DaysComeBack, NextIsOneMore, NextDates, NextDays, Ends, DaysApart, DatesApart}
 use Rattle.calendar.proofs.Laws.Date.{days-to-small, date-of-days-to, is-date-at, days-to-date-at, next-date}
 use Rattle.calendar.proofs.Laws.Day.{days-to-zero, number-of, index, index-is, is-day}
 
 -- ---- date to day number and back
 
 pub dates-come-back : DatesComeBack
-unfolding dayOf dateOf
+unfolding dayNumberOf dateOf
 dates-come-back t e =
     let i = daysTo t in
     let z-is-day : isDay (numberOf t) ≡ true = rw (number-of t) (is-day i (days-to-small t e)) in
@@ -38,7 +39,7 @@ dates-come-back t e =
     }
 
 pub days-come-back : DaysComeBack
-unfolding dayOf dateOf
+unfolding dayNumberOf dateOf
 days-come-back z e =
     let x = index z e in
     let t-is-date = is-date-at (x .i) (x .small) in
@@ -95,27 +96,21 @@ next-days z t e f =
 -- ---- the ends, by computation
 
 pub ends : Ends
-unfolding before spanOf lengthIn yearLength isDate daysTo numberOf dayOf dateAt isDay dateOf
-ends = record { first = refl; last = refl; before-first = refl; after-last = refl; zero = refl; before-zero = refl }
+unfolding before spanOf lengthIn yearLength isDate daysTo numberOf dayNumberOf dateAt isDay dateOf
+ends = record { first = refl; last = refl; before-first = refl; after-last = refl; year-1900 = refl; year-2200 = refl; no-leap-day-1901 = refl; zero = refl; before-zero = refl }
 
--- ---- the answers: each of the two enums has a case for a refusal and a case for a value
-
-again : {A E : Type 0} → (ℕ → E) → (A → E) → Answer A → E
-again no-value value (refused k) = no-value k
-again no-value value (answered a) = value a
+-- ---- the answers
 
 day-again : (a : DayAnswer) → again day.Refused day.Day (saidDay a) ≡ a
-unfolding again
 day-again (day.Refused k) = refl
 day-again (day.Day z) = refl
 
 date-again : (a : DateAnswer) → again date.Refused date.Date (saidDate a) ≡ a
-unfolding again
 date-again (date.Refused k) = refl
 date-again (date.Date t) = refl
 
-pub saidDay-tells-apart : {a b : DayAnswer} → saidDay a ≡ saidDay b → a ≡ b
-saidDay-tells-apart = apart saidDay (again day.Refused day.Day) day-again
+pub saidDay-tells-apart : DaysApart
+saidDay-tells-apart a b = apart saidDay (again day.Refused day.Day) day-again
 
-pub saidDate-tells-apart : {a b : DateAnswer} → saidDate a ≡ saidDate b → a ≡ b
-saidDate-tells-apart = apart saidDate (again date.Refused date.Date) date-again
+pub saidDate-tells-apart : DatesApart
+saidDate-tells-apart a b = apart saidDate (again date.Refused date.Date) date-again

@@ -17,7 +17,8 @@ use borrow.Author.Tests.{ltb-true, ltb-false, le-leb}
 use mir.Facts.{and-yes, leb-yes}
 use Rattle.calendar.specs.Spans.{before, spanOf}
 use Rattle.calendar.specs.declared.Date.{Date}
-use Rattle.calendar.specs.Calendar.{leap, monthLength, yearLength, isDate, daysTo, yearAt, dayInYear, monthAt, dateAt, daysInAll, nextDate}
+use Rattle.calendar.specs.Calendar.{leap, monthLength, yearLength, isDate, daysTo, yearAt, dayInYear, monthAt, dateAt, nextDate}
+use Rattle.calendar.specs.Parts.{daysInAll}
 use Rattle.calendar.proofs.Laws.Spans.{Falls, before-first, before-next, before-grows, before-orders, span-found, span-falls, span-within}
 use Rattle.calendar.proofs.Laws.Month.{month}
 use Rattle.calendar.proofs.Laws.Year.{year-length, years-end}

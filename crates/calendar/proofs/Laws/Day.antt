@@ -18,7 +18,8 @@ use mir.Syntax.{w32}
 use mir.Val.{SFits}
 use Rattle.calendar.specs.Spans.{before}
 use Rattle.calendar.specs.declared.Date.{Date}
-use Rattle.calendar.specs.Calendar.{lengthIn, yearLength, daysTo, dayZero, numberOf, isDay, daysInAll}
+use Rattle.calendar.specs.Calendar.{lengthIn, yearLength, daysTo, dayZero, numberOf, isDay}
+use Rattle.calendar.specs.Parts.{daysInAll}
 
 pub days-to-zero : daysTo dayZero ≡ 25202
 unfolding before lengthIn yearLength daysTo

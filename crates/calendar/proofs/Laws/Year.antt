@@ -10,7 +10,8 @@ use Prim.Native.Nat.{ℕ, zero, suc, _+_, _*_, _/_, _%_, _<_}
 use native.Mathlib.Omega.{arith}
 use borrow.Author.Tests.{eqb-true, eqb-false}
 use Rattle.calendar.specs.Spans.{before, spanOf}
-use Rattle.calendar.specs.Calendar.{leap, lengthIn, monthLength, yearLength, daysInAll}
+use Rattle.calendar.specs.Calendar.{leap, lengthIn, monthLength, yearLength}
+use Rattle.calendar.specs.Parts.{daysInAll}
 use Rattle.calendar.proofs.Laws.Spans.{span-found}
 use Rattle.calendar.proofs.Laws.Month.{month}
 

@@ -12,8 +12,8 @@ use native.Mathlib.Omega.{arith}
 use native.Mathlib.Nat.{not-suc-le-zero, le-of-suc-le-suc}
 use lib.ListN.{length, getD, drop}
 use borrow.Author.Tests.{le-leb, ltb-true, not-true, not-false}
-use Rattle.answer.specs.Answer.{Answer, refused, answered, _if_}
-use Rattle.answer.proofs.Laws.{answered-only-if, apart}
+use Rattle.answer.specs.Answer.{refused, answered, _if_}
+use Rattle.answer.proofs.Laws.{answered-only-if, again, apart}
 use Rattle.sheet.specs.declared.Entry.{Entry}
 use Rattle.sheet.specs.declared.Numbers.{Numbers}
 use Rattle.sheet.specs.declared.Trailer.{Trailer}
@@ -70,16 +70,16 @@ pub ruleset readings = (read-short, read-bad-trailer, read-room, read-bad-entrie
 
 -- ---- the answer
 
-abbrev again : Answer Sheet → Reading
-again (refused k) = reading.Refused k
-again (answered sheet) = reading.Good (sheet .numbers)
+numbered : Sheet → Reading
+numbered sheet = reading.Good (sheet .numbers)
 
-found : (s : List ℕ) (a : Reading) → again (saidRead s a) ≡ a
+found : (s : List ℕ) (a : Reading) → again reading.Refused numbered (saidRead s a) ≡ a
+unfolding numbered
 found s (reading.Good n) = refl
 found s (reading.Refused k) = refl
 
 pub saidRead-tells-apart : ReadingsApart
-saidRead-tells-apart s a b = apart (saidRead s) again (found s)
+saidRead-tells-apart s a b = apart (saidRead s) (again reading.Refused numbered) (found s)
 
 -- ---- entries where they stand
 

@@ -10,8 +10,7 @@ use native.Mathlib.Omega.{arith}
 use lib.ListN.{length, take, drop, length-append, length-take}
 use lib.Seq.{length-take-le}
 use borrow.Author.Tests.{lt-ltb, le-ltb, not-true, not-false}
-use Rattle.answer.specs.Answer.{Answer, refused, answered}
-use Rattle.answer.proofs.Laws.{apart}
+use Rattle.answer.proofs.Laws.{again, apart}
 use Rattle.sheet.specs.declared.Entry.{Entry}
 use Rattle.sheet.specs.declared.Numbers.{Numbers}
 use Rattle.sheet.specs.declared.Trailer.{Trailer}
@@ -114,13 +113,9 @@ pub ruleset writings = (write-too-many, write-bad-trailer, write-bad-entries, wr
 
 -- ---- the answer
 
-abbrev again : Answer ℕ → Written
-again (refused k) = written.Refused k
-again (answered n) = written.Sheet n
-
-found : (a : Written) → again (saidWritten a) ≡ a
+found : (a : Written) → again written.Refused written.Sheet (saidWritten a) ≡ a
 found (written.Sheet n) = refl
 found (written.Refused k) = refl
 
 pub saidWritten-tells-apart : WritingsApart
-saidWritten-tells-apart a b = apart saidWritten again found
+saidWritten-tells-apart a b = apart saidWritten (again written.Refused written.Sheet) found

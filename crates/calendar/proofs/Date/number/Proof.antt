@@ -3,7 +3,7 @@
 use mathlib.Core.Path.{sym, _∙_}
 use native.Mathlib.Omega.{arith}
 use borrow.Author.Needs.{needs}
-use Rattle.calendar.specs.Calendar.{daysTo, dayOf}
+use Rattle.calendar.specs.Calendar.{daysTo, dayNumberOf}
 use Rattle.calendar.proofs.Computed.{number-fits, number-computed}
 use Rattle.calendar.proofs.Laws.Date.{days-to-small}
 use Rattle.calendar.proofs.Laws.Day.{number-of}
@@ -17,7 +17,7 @@ days-to-requires : tie.Need-days-to-requires
 days-to-requires c κs = sym (c .before .is-date .ensures) ∙ c .if1 .taken
 
 returns : tie.Need-returns
-unfolding dayOf
+unfolding dayNumberOf
 returns c =
     let t = c .before .before .before .args .self in
     let e = sym (c .before .before .is-date .ensures) ∙ c .before .if1 .taken in
@@ -35,7 +35,7 @@ sub-t5 c =
     rw (c .days-to .ensures) (number-fits (daysTo t) (days-to-small t e))
 
 returns-2 : tie.Need-returns-2
-unfolding dayOf
+unfolding dayNumberOf
 returns-2 c = rw (sym (c .before .is-date .ensures) ∙ c .if1 .left)
 
 pub number-spec : {M : Type 1} → statement M
