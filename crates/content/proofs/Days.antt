@@ -1,8 +1,8 @@
 -- The difference of two days at 64 bits, as the code computes it from two days of 32. A signed number of the code shows as
 -- `toZ w (ofZ w z)`, the number of its own pattern: these laws take that away and bound the difference.
 -- Assumes nothing.
-use Prim.Native.Nat.{ℕ, zero, suc, _+_, _^_, _-_, _<_, _≤_}
-use mathlib.Core.Path.{_≡_, refl, _∙_}
+use Prim.Native.Nat.{ℕ, zero, suc, _^_, _-_, _<_, _≤_}
+use mathlib.Core.Path.{_≡_, _∙_}
 use mathlib.Core.Bool.{Bool, true, false, cond}
 use native.Mathlib.Omega.{arith}
 use lib.Dec.{ltb}

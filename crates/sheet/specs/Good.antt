@@ -2,13 +2,12 @@
 -- limits; sender is below desks; entries' cells rise strictly and are below cells; kinds, days and zero bytes are as above; the turn
 -- number is at most 4,294,967,294 and leaves the sender when divided by desks."
 -- Assumes nothing.
-use Prim.Native.Nat.{ℕ, zero, suc, _+_, _*_, _-_, _%_}
-use mathlib.Core.Bool.{Bool, true, false, _&&_, _||_}
+use Prim.Native.Nat.{ℕ, _*_, _-_, _%_}
+use mathlib.Core.Bool.{Bool, true, _&&_, _||_}
 use mathlib.Core.List.{List, [], _∷_}
 use lib.Dec.{eqb, leb, ltb}
 use lib.ListN.{length}
 use Rattle.sheet.specs.declared.Entry.{Entry}
-use Rattle.sheet.specs.declared.Trailer.{Trailer}
 use Rattle.sheet.specs.Layout.{entriesOf, trailerIn}
 
 -- a test holds of every entry
@@ -32,7 +31,7 @@ below cells e = ltb (e .cell) cells
 
 -- "kinds, days .. are as above": "1 open, 2 day", and the day "zero for open"
 abbrev pub kindAndDay : Entry → Bool
-kindAndDay e = eqb (e .kind) 1 && eqb (e .day) 0 || eqb (e .kind) 2
+kindAndDay e = (eqb (e .kind) 1 && eqb (e .day) 0) || eqb (e .kind) 2
 
 -- 01's table of limits: from 1 desk to 16, from 1 cell to 64
 abbrev pub within : ℕ → ℕ → ℕ → Bool

@@ -7,10 +7,10 @@
 use mathlib.Core.Path.{_≡_, refl, ap, sym, _∙_}
 use mathlib.Core.Bool.{Bool, true, false}
 use mathlib.Core.Logic.{⊎-elim}
-use Prim.Native.Nat.{ℕ, zero, suc, _+_, _-_, _<_}
+use Prim.Native.Nat.{ℕ, zero, suc, _<_}
 use native.Mathlib.Nat.{eq-or-lt-of-le}
 use native.Mathlib.Omega.{arith}
-use lib.IntN.{ℤ, pos, negsuc, sucℤ, natAbs, _+ℤ_, _-ℤ_, sucℤ-+ℤ, -ℤ-+ℤ-cancel}
+use lib.IntN.{ℤ, pos, negsuc, sucℤ, natAbs, _+ℤ_, sucℤ-+ℤ, -ℤ-+ℤ-cancel}
 use Rattle.answer.specs.Answer.{refused, answered}
 use Rattle.answer.proofs.Laws.{again, apart}
 use Rattle.calendar.specs.Spans.{before, spanOf}

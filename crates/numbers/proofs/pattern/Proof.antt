@@ -1,11 +1,8 @@
 -- `num::pattern` meets its contract: z is 0 or more, and its own pattern, or -(k + 1), and -1 less z is k. Assumes nothing.
 use mathlib.Core.Path.{ap, sym, _∙_}
-use mathlib.Core.Bool.{true, false}
 use native.Mathlib.Omega.{arith}
-use lib.IntN.{pos}
-use lib.Signed.{leZ}
 use mir.Syntax.{w32}
-use mir.Val.{SFits, toZ, ofZ}
+use mir.Val.{ofZ}
 use mir.Facts.{toZ-ofZ, toZ-pos}
 use Rattle.numbers.proofs.Signs.{plus, minus, Plus, Minus}
 use Rattle.numbers.proofs.pattern.Statement.{statement}

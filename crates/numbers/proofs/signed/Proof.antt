@@ -1,13 +1,13 @@
 -- `signed` meets its contract: a pattern from 2,147,483,648 up is -1 less what is left of it to 4,294,967,295.
 -- Assumes nothing.
 use borrow.Author.Needs.{needs}
-use mathlib.Core.Path.{_≡_, ap, sym, _∙_}
-use Prim.Native.Nat.{_-_, _<_}
+use mathlib.Core.Path.{_≡_, ap}
+use Prim.Native.Nat.{_-_}
 use native.Mathlib.Omega.{arith}
-use lib.IntN.{negsuc, pos, _-ℤ_}
+use lib.IntN.{negsuc}
 use mir.Syntax.{w32}
-use mir.Val.{SFits, toZ, ofZ}
-use mir.Facts.{toZ-ofZ, toZ-pos, ofZ-toZ}
+use mir.Val.{toZ, ofZ}
+use mir.Facts.{toZ-pos}
 use Rattle.numbers.proofs.Signs.{minus-pos}
 use Rattle.numbers.proofs.signed.Statement.{statement}
 use Rattle.numbers.proofs.signed.Tie as tie

@@ -24,7 +24,7 @@ use Rattle.content.specs.declared.Content.the-variants.{Blank, Open, Day}
 use Rattle.content.specs.Content.{contentOf}
 use Rattle.sheet.specs.declared.Entry.{Entry}
 use Rattle.sheet.specs.declared.Trailer.{Trailer}
-use Rattle.sheet.specs.Layout.{trailerBytes, sheetBytes, entryOf, entriesOf, trailerIn, entryFor, contentIn}
+use Rattle.sheet.specs.Layout.{trailerBytes, sheetBytes, entryOf, entriesOf, trailerIn, entryFor}
 use Rattle.sheet.specs.Good.{every, nextAbove, rising, below, kindAndDay, within, good}
 use Rattle.sheet.specs.Promises.{OpenOrDay, is-open, is-day}
 use Rattle.sheet.specs.Values.{DaysFit}

@@ -8,21 +8,18 @@
 -- Assumes nothing.
 use mathlib.Core.Path.{_≡_, refl, sym, ap, _∙_}
 use mathlib.Core.List.{List, [], _∷_, _++_}
-use Prim.Native.Nat.{ℕ, zero, suc, _+_, _*_, _-_, _^_, _<_, _≤_}
+use Prim.Native.Nat.{ℕ, zero, suc, _+_, _*_, _-_, _<_, _≤_}
 use native.Mathlib.Omega.{arith}
 use native.Mathlib.Nat.{not-suc-le-zero, le-of-suc-le-suc}
 use lib.ListN.{length, getD, take, drop, length-append, length-drop, take-append-drop}
 use lib.Seq.{drop-drop, drop-at, take-add, getD-drop, take-all}
-use lib.IntN.{ℤ}
-use lib.Signed.{mag}
 use mir.Syntax.{w32}
-use mir.Val.{SFits, toZ, ofZ}
+use mir.Val.{SFits}
 use mir.Facts.{toZ-ofZ, fits-ofZ}
 use Rattle.numbers.specs.Numbers.{bytes, at1}
 use Rattle.numbers.proofs.Laws.{none, more, num-bytes, bytes-num}
 use Rattle.content.specs.declared.Content.{Content}
-use Rattle.content.specs.declared.Content.the-variants.{Open, Day}
-use Rattle.content.specs.Content.{kindOf, dayOf, contentOf}
+use Rattle.content.specs.Content.{dayOf}
 use Rattle.content.proofs.Laws.Content.{content-again}
 use Rattle.sheet.specs.declared.Entry.{Entry}
 use Rattle.sheet.specs.declared.Trailer.{Trailer}

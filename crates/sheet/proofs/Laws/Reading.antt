@@ -6,11 +6,11 @@
 -- Assumes nothing.
 use mathlib.Core.Path.{_≡_, refl, sym, ap, _∙_, subst, subst⁻¹}
 use mathlib.Core.List.{List, [], _∷_}
-use mathlib.Core.Bool.{Bool, true, false, not, cond, _&&_}
+use mathlib.Core.Bool.{Bool, true, false, not, _&&_}
 use Prim.Native.Nat.{ℕ, zero, suc, _+_, _*_, _-_, _<_, _≤_}
 use native.Mathlib.Omega.{arith}
 use native.Mathlib.Nat.{not-suc-le-zero, le-of-suc-le-suc}
-use lib.ListN.{length, getD, drop}
+use lib.ListN.{length, getD}
 use borrow.Author.Tests.{le-leb, ltb-true, not-true, not-false}
 use Rattle.answer.specs.Answer.{refused, answered, _if_}
 use Rattle.answer.proofs.Laws.{answered-only-if, again, apart}
@@ -19,7 +19,7 @@ use Rattle.sheet.specs.declared.Numbers.{Numbers}
 use Rattle.sheet.specs.declared.Trailer.{Trailer}
 use Rattle.sheet.specs.declared.Reading.{Reading}
 use Rattle.sheet.specs.declared.Reading.the-variants as reading
-use Rattle.sheet.specs.Layout.{entryOf, entriesOf, trailerIn, numbersOf}
+use Rattle.sheet.specs.Layout.{entriesOf, trailerIn, numbersOf}
 use Rattle.sheet.specs.Good.{every, rising, below, kindAndDay, good}
 use Rattle.sheet.specs.Parts.{goodTrailer, goodEntries}
 use Rattle.sheet.specs.Reading.{Sheet, sheetIn, readOf, saidRead, noEntry, entryAt}

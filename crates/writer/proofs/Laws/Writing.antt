@@ -3,21 +3,21 @@
 --   saidWritten-tells-apart : WritingsApart (specs/Promises.antt)
 -- Assumes nothing.
 use mathlib.Core.Path.{_≡_, refl, sym, ap, _∙_}
-use mathlib.Core.List.{List, [], _∷_, _++_}
+use mathlib.Core.List.{List, _++_}
 use mathlib.Core.Bool.{Bool, true, false, not}
-use Prim.Native.Nat.{ℕ, zero, suc, _+_, _*_, _-_, _<_, _≤_}
+use Prim.Native.Nat.{ℕ, _+_, _*_, _<_, _≤_}
 use native.Mathlib.Omega.{arith}
-use lib.ListN.{length, take, drop, length-append, length-take}
+use lib.ListN.{length, take, drop, length-take}
 use lib.Seq.{length-take-le}
 use borrow.Author.Tests.{lt-ltb, le-ltb, not-true, not-false}
 use Rattle.answer.proofs.Laws.{again, apart}
 use Rattle.sheet.specs.declared.Entry.{Entry}
 use Rattle.sheet.specs.declared.Numbers.{Numbers}
 use Rattle.sheet.specs.declared.Trailer.{Trailer}
-use Rattle.sheet.specs.Layout.{entriesBytes, trailerBytes, sheetBytes, trailerFor, sheetFor}
+use Rattle.sheet.specs.Layout.{entriesBytes, trailerBytes, trailerFor, sheetFor}
 use Rattle.sheet.specs.Good.{good}
-use Rattle.sheet.specs.Parts.{goodTrailer, goodEntries}
-use Rattle.sheet.specs.Values.{NumbersFit, DaysFit}
+use Rattle.sheet.specs.Parts.{goodTrailer}
+use Rattle.sheet.specs.Values.{NumbersFit}
 use Rattle.sheet.proofs.Laws.Layout.{TrailerFits, entries-length, sheet-length}
 use Rattle.sheet.proofs.Laws.Good.{fair-trailer, sheet-bad, sheet-good}
 use Rattle.writer.specs.declared.Written.{Written}
