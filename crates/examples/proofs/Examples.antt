@@ -3,7 +3,7 @@
 use mathlib.Core.Path.{refl}
 use Rattle.calendar.specs.Spans.{before}
 use Rattle.calendar.specs.Calendar.{lengthIn, yearLength, isDate, daysTo, numberOf, dayNumberOf}
-use Rattle.sheet.specs.Layout.{sheetFor}
+use Rattle.layout.specs.Layout.{sheetFor}
 use Rattle.sheet.specs.Good.{good}
 use Rattle.writer.specs.Writing.{writtenOf, bufferOf}
 use Rattle.examples.specs.Examples.{written, cases, ExamplesHold}

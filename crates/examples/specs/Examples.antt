@@ -11,9 +11,9 @@ use Rattle.content.specs.declared.Content.the-variants.{Blank, Day}
 use Rattle.content.specs.Standing.{Stands, unknown, left, standingOn}
 use Rattle.calendar.specs.declared.Date.{Date}
 use Rattle.calendar.specs.Calendar.{dayNumberOf}
-use Rattle.sheet.specs.declared.Entry.{Entry}
-use Rattle.sheet.specs.declared.Numbers.{Numbers}
-use Rattle.sheet.specs.Layout.{entryFor, entryBytes}
+use Rattle.layout.specs.declared.Entry.{Entry}
+use Rattle.layout.specs.declared.Numbers.{Numbers}
+use Rattle.layout.specs.Layout.{entryFor, entryBytes}
 use Rattle.writer.specs.Writing.{writtenOf, bufferOf}
 
 -- what the examples speak of: bytes, the answer of a writing with the buffer after it, a standing, a day

@@ -6,8 +6,8 @@ use calendar::DateAnswer;
 use calendar::DayAnswer;
 use content::Content;
 use content::Standing;
-use sheet::Entry;
-use sheet::Numbers;
+use layout::Entry;
+use layout::Numbers;
 use sheet::Reading;
 use writer::Written;
 

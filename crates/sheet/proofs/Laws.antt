@@ -1,4 +1,3 @@
 pub mod Bools
-pub mod Layout
 pub mod Good
 pub mod Reading

@@ -7,8 +7,8 @@ use mathlib.Core.Bool.{Bool, true, _&&_, _||_}
 use mathlib.Core.List.{List, [], _∷_}
 use lib.Dec.{eqb, leb, ltb}
 use lib.ListN.{length}
-use Rattle.sheet.specs.declared.Entry.{Entry}
-use Rattle.sheet.specs.Layout.{entriesOf, trailerIn}
+use Rattle.layout.specs.declared.Entry.{Entry}
+use Rattle.layout.specs.Layout.{entriesOf, trailerIn}
 
 -- a test holds of every entry
 abbrev pub every : (Entry → Bool) → List Entry → Bool

@@ -5,8 +5,8 @@ use Prim.Native.Nat.{ℕ, _*_, _%_}
 use mathlib.Core.Bool.{Bool, _&&_}
 use mathlib.Core.List.{List}
 use lib.Dec.{eqb, leb, ltb}
-use Rattle.sheet.specs.declared.Entry.{Entry}
-use Rattle.sheet.specs.declared.Trailer.{Trailer}
+use Rattle.layout.specs.declared.Entry.{Entry}
+use Rattle.layout.specs.declared.Trailer.{Trailer}
 use Rattle.sheet.specs.Good.{every, rising, below, kindAndDay, within}
 
 -- of a trailer that has so many bytes before it

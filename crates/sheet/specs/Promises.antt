@@ -3,17 +3,14 @@
 use mathlib.Core.Path.{_≡_}
 use mathlib.Core.List.{List}
 use Prim.Native.Nat.{ℕ, _<_}
-use lib.IntN.{ℤ}
 use lib.ListN.{length, getD}
 use mir.Syntax.{w32}
-use mir.Val.{SFits, toZ}
+use mir.Val.{toZ}
 use Rattle.answer.specs.Answer.{answered}
-use Rattle.content.specs.declared.Content.{Content}
 use Rattle.content.specs.declared.Content.the-variants.{Open, Day}
-use Rattle.content.specs.Content.{dayOf}
-use Rattle.sheet.specs.declared.Entry.{Entry}
+use Rattle.layout.specs.declared.Entry.{Entry}
 use Rattle.sheet.specs.declared.Reading.{Reading}
-use Rattle.sheet.specs.Layout.{entryBytes, entryFor, contentIn}
+use Rattle.layout.specs.Layout.{contentIn}
 use Rattle.sheet.specs.Reading.{Sheet, readOf, saidRead, noEntry, entryAt}
 
 -- ---- a good sheet gives its entries, where they stand
@@ -38,14 +35,3 @@ EntriesInPlace = (s : List ℕ) (sheet : Sheet) → readOf s ≡ answered sheet 
 -- two different answers never say the same of the same bytes
 abbrev pub ReadingsApart : Type 0
 ReadingsApart = (s : List ℕ) (a b : Reading) → saidRead s a ≡ saidRead s b → a ≡ b
-
--- ---- "empty is not zero and not yesterday", on the line
-
--- two contents that are sent with the same bytes are the same content; the premises say that the days have 32 bits
-abbrev pub ContentsApart : Type 0
-ContentsApart =
-    (cell : ℕ) (c d : Content) → SFits w32 (dayOf c) → SFits w32 (dayOf d) → entryBytes (entryFor cell c) ≡ entryBytes (entryFor cell d) → c ≡ d
-
--- no day, and so not day 0, has the bytes of open
-abbrev pub OpenMeetsNoDay : Type 0
-OpenMeetsNoDay = (cell : ℕ) (d : ℤ) → entryBytes (entryFor cell Open) ≡ entryBytes (entryFor cell (Day d)) → ⊥

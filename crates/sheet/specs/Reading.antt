@@ -6,11 +6,11 @@ use mathlib.Core.List.{List, [], _∷_}
 use lib.Dec.{leb}
 use lib.ListN.{length, drop}
 use Rattle.answer.specs.Answer.{Answer, refused, answered, _if_, answer}
-use Rattle.sheet.specs.declared.Entry.{Entry}
-use Rattle.sheet.specs.declared.Numbers.{Numbers}
+use Rattle.layout.specs.declared.Entry.{Entry}
+use Rattle.layout.specs.declared.Numbers.{Numbers}
 use Rattle.sheet.specs.declared.Reading.{Reading}
 use Rattle.sheet.specs.declared.Reading.the-variants as read
-use Rattle.sheet.specs.Layout.{entryOf, entriesOf, trailerIn, numbersOf}
+use Rattle.layout.specs.Layout.{entryOf, entriesOf, trailerIn, numbersOf}
 use Rattle.sheet.specs.Good.{good}
 
 -- what a good sheet gives

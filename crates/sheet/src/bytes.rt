@@ -2,9 +2,9 @@
 ghost use mathlib.Core.Path.{_≡_};
 ghost use Prim.Native.Nat.{_+_, _≤_};
 ghost use lib.ListN.{length, drop};
-ghost use Rattle.sheet.specs.Layout.{entryOf, trailerOf};
-use crate::Entry;
-use crate::Trailer;
+ghost use Rattle.layout.specs.Layout.{entryOf, trailerOf};
+use layout::Entry;
+use layout::Trailer;
 
 // The entry that starts at `at`.
 pub(crate) fn entry_from(s: &[u8], at: usize) -> Entry

@@ -2,11 +2,11 @@
 ghost use mathlib.Core.Path.{_≡_};
 ghost use Prim.Native.Nat.{_%_, _*_, _≤_};
 ghost use lib.ListN.{length};
-ghost use Rattle.sheet.specs.Layout.{entriesOf};
+ghost use Rattle.layout.specs.Layout.{entriesOf};
 ghost use Rattle.sheet.specs.Parts.{goodTrailer, goodEntry, goodEntries};
-use crate::Entry;
-use crate::Trailer;
 use crate::bytes;
+use layout::Entry;
+use layout::Trailer;
 
 // What a turn number leaves when divided by desks; by no desks it leaves itself.
 fn left_by(turn: u32, desks: u8) -> u32

@@ -10,10 +10,10 @@
 ghost use Prim.Native.Nat.{_<_};
 ghost use lib.ListN.{length};
 use content::Content;
+use layout::Entry;
+use layout::Numbers;
 use libc::STDIN_FILENO;
 use libc::STDOUT_FILENO;
-use sheet::Entry;
-use sheet::Numbers;
 use sheet::Reading;
 use writer::Written;
 

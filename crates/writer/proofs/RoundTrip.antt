@@ -12,14 +12,14 @@ use lib.Seq.{take-at}
 use borrow.Author.Tests.{le-ltb, not-false}
 use Rattle.answer.specs.Answer.{answered, _if_}
 use Rattle.answer.proofs.Laws.{Silent, answered-only-if, answered-if, changed-if}
-use Rattle.sheet.specs.declared.Entry.{Entry}
-use Rattle.sheet.specs.declared.Numbers.{Numbers}
-use Rattle.sheet.specs.declared.Trailer.{Trailer}
-use Rattle.sheet.specs.Layout.{entriesOf, trailerIn, trailerBytes, sheetBytes, numbersOf, trailerFor, sheetFor}
+use Rattle.layout.specs.declared.Entry.{Entry}
+use Rattle.layout.specs.declared.Numbers.{Numbers}
+use Rattle.layout.specs.declared.Trailer.{Trailer}
+use Rattle.layout.specs.Layout.{entriesOf, trailerIn, trailerBytes, sheetBytes, numbersOf, trailerFor, sheetFor}
 use Rattle.sheet.specs.Good.{good}
 use Rattle.sheet.specs.Reading.{Sheet, sheetIn, readOf}
-use Rattle.sheet.specs.Values.{AreBytes, DaysFit, NumbersFit}
-use Rattle.sheet.proofs.Laws.Layout.{entries-back, entries-count, trailer-back, sheet-again, sheet-length}
+use Rattle.layout.specs.Values.{AreBytes, DaysFit, NumbersFit}
+use Rattle.layout.proofs.Laws.{entries-back, entries-count, trailer-back, sheet-again, sheet-length}
 use Rattle.sheet.proofs.Laws.Good.{FairTrailer, good-trailer-is-fair, good-length}
 use Rattle.sheet.proofs.Laws.Reading.{good-read}
 use Rattle.writer.specs.Writing.{writeRules, writtenOf, bufferOf}

@@ -5,9 +5,9 @@ use mathlib.Core.Path.{_≡_}
 use mathlib.Core.Bool.{Bool}
 use mathlib.Core.List.{List}
 use Prim.Native.Nat.{ℕ}
-use Rattle.sheet.specs.declared.Entry.{Entry}
+use Rattle.layout.specs.declared.Entry.{Entry}
 use Rattle.sheet.specs.Parts.{goodEntries}
-use Rattle.sheet.specs.Values.{DaysFit}
+use Rattle.layout.specs.Values.{DaysFit}
 
 pub record Tested (cells : ℕ) (es : List Entry) (r : Bool) : Type 0 where
   pub found : r ≡ goodEntries cells es

@@ -7,10 +7,10 @@ use mathlib.Core.List.{List, _++_}
 use Prim.Native.Nat.{ℕ, _≤_}
 use lib.ListN.{length, take, drop}
 use Rattle.answer.specs.Answer.{answered}
-use Rattle.sheet.specs.declared.Entry.{Entry}
-use Rattle.sheet.specs.declared.Numbers.{Numbers}
+use Rattle.layout.specs.declared.Entry.{Entry}
+use Rattle.layout.specs.declared.Numbers.{Numbers}
 use Rattle.sheet.specs.Reading.{Sheet, readOf}
-use Rattle.sheet.specs.Values.{AreBytes, DaysFit, NumbersFit}
+use Rattle.layout.specs.Values.{AreBytes, DaysFit, NumbersFit}
 use Rattle.writer.specs.declared.Written.{Written}
 use Rattle.writer.specs.Writing.{writtenOf, bufferOf, saidWritten}
 

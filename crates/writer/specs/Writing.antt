@@ -8,9 +8,9 @@ use Prim.Native.Nat.{ℕ}
 use lib.Dec.{ltb}
 use lib.ListN.{length, drop}
 use Rattle.answer.specs.Answer.{Answer, Rule, refused, answered, _if_, answer, leaves}
-use Rattle.sheet.specs.declared.Entry.{Entry}
-use Rattle.sheet.specs.declared.Numbers.{Numbers}
-use Rattle.sheet.specs.Layout.{sheetFor}
+use Rattle.layout.specs.declared.Entry.{Entry}
+use Rattle.layout.specs.declared.Numbers.{Numbers}
+use Rattle.layout.specs.Layout.{sheetFor}
 use Rattle.sheet.specs.Good.{good}
 use Rattle.writer.specs.declared.Written.{Written}
 use Rattle.writer.specs.declared.Written.the-variants as written

@@ -3,9 +3,9 @@ ghost use mathlib.Core.List.{_++_};
 ghost use mathlib.Core.Path.{_≡_};
 ghost use Prim.Native.Nat.{_*_, _≤_};
 ghost use lib.ListN.{length, take, drop};
-ghost use Rattle.sheet.specs.Layout.{entriesBytes};
+ghost use Rattle.layout.specs.Layout.{entriesBytes};
 ghost use Rattle.writer.specs.Parts.{Tested};
-use sheet::Entry;
+use layout::Entry;
 
 // Whether they rise, are below `cells`, and are open or a day.
 pub(crate) fn good_entries(es: [Entry; 64], n: usize, cells: u8) -> bool

@@ -5,15 +5,15 @@
 // written. `put_entry` and `put_trailer` lay one part over a buffer, for a caller that writes a sheet
 // part by part.
 ghost use mathlib.Core.Path.{_≡_};
-ghost use Rattle.sheet.specs.Layout.{entryBytes, trailerBytes};
+ghost use Rattle.layout.specs.Layout.{entryBytes, trailerBytes};
 ghost use Rattle.laying.specs.Laying.{laidOver};
 ghost use Rattle.writer.specs.Writing.{Writes};
 
 mod given;
 
-use sheet::Entry;
-use sheet::Numbers;
-use sheet::Trailer;
+use layout::Entry;
+use layout::Numbers;
+use layout::Trailer;
 
 pub enum Written {
     // The sheet's length.

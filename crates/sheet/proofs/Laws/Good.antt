@@ -22,16 +22,16 @@ use mir.Syntax.{w32}
 use mir.Val.{toZ}
 use Rattle.content.specs.declared.Content.the-variants.{Blank, Open, Day}
 use Rattle.content.specs.Content.{contentOf}
-use Rattle.sheet.specs.declared.Entry.{Entry}
-use Rattle.sheet.specs.declared.Trailer.{Trailer}
-use Rattle.sheet.specs.Layout.{trailerBytes, sheetBytes, entryOf, entriesOf, trailerIn, entryFor}
+use Rattle.layout.specs.declared.Entry.{Entry}
+use Rattle.layout.specs.declared.Trailer.{Trailer}
+use Rattle.layout.specs.Layout.{trailerBytes, sheetBytes, entryOf, entriesOf, trailerIn, entryFor}
 use Rattle.sheet.specs.Good.{every, nextAbove, rising, below, kindAndDay, within, good}
 use Rattle.sheet.specs.Promises.{OpenOrDay, is-open, is-day}
-use Rattle.sheet.specs.Values.{DaysFit}
+use Rattle.layout.specs.Values.{DaysFit}
 use Rattle.sheet.specs.Reading.{noEntry}
 use Rattle.sheet.specs.Parts.{goodTrailer, goodEntry, goodEntries}
 use Rattle.sheet.proofs.Laws.Bools.{and-split, in-any-order}
-use Rattle.sheet.proofs.Laws.Layout.{entry-of-entries, entries-count, sheet-length, TrailerFits, entries-back, trailer-back}
+use Rattle.layout.proofs.Laws.{entry-of-entries, entries-count, sheet-length, TrailerFits, entries-back, trailer-back}
 
 -- ---- the entries, as a loop goes
 

@@ -14,18 +14,18 @@ use lib.ListN.{length, getD}
 use borrow.Author.Tests.{le-leb, ltb-true, not-true, not-false}
 use Rattle.answer.specs.Answer.{refused, answered, _if_}
 use Rattle.answer.proofs.Laws.{answered-only-if, again, apart}
-use Rattle.sheet.specs.declared.Entry.{Entry}
-use Rattle.sheet.specs.declared.Numbers.{Numbers}
-use Rattle.sheet.specs.declared.Trailer.{Trailer}
+use Rattle.layout.specs.declared.Entry.{Entry}
+use Rattle.layout.specs.declared.Numbers.{Numbers}
+use Rattle.layout.specs.declared.Trailer.{Trailer}
 use Rattle.sheet.specs.declared.Reading.{Reading}
 use Rattle.sheet.specs.declared.Reading.the-variants as reading
-use Rattle.sheet.specs.Layout.{entriesOf, trailerIn, numbersOf}
+use Rattle.layout.specs.Layout.{entriesOf, trailerIn, numbersOf}
 use Rattle.sheet.specs.Good.{every, rising, below, kindAndDay, good}
 use Rattle.sheet.specs.Parts.{goodTrailer, goodEntries}
 use Rattle.sheet.specs.Reading.{Sheet, sheetIn, readOf, saidRead, noEntry, entryAt}
 use Rattle.sheet.specs.Promises.{GoodEntry, EntriesStand, EntriesInPlace, ReadingsApart}
 use Rattle.sheet.proofs.Laws.Bools.{and-split}
-use Rattle.sheet.proofs.Laws.Layout.{entries-count, entry-of-entries}
+use Rattle.layout.proofs.Laws.{entries-count, entry-of-entries}
 use Rattle.sheet.proofs.Laws.Good.{good-is, too-short-is-bad, fair-trailer, good-length, good-entries-are, open-or-day}
 
 -- ---- by good alone

@@ -10,12 +10,12 @@ use native.Mathlib.Omega.{arith}
 use native.Mathlib.Numerals.{add-one}
 use lib.ListN.{length, getD, take, drop, length-append}
 use lib.Seq.{getD-take, take-suc, length-take-le}
-use Rattle.sheet.specs.declared.Entry.{Entry}
-use Rattle.sheet.specs.Layout.{entryBytes, entriesBytes}
+use Rattle.layout.specs.declared.Entry.{Entry}
+use Rattle.layout.specs.Layout.{entryBytes, entriesBytes}
 use Rattle.sheet.specs.Parts.{goodEntry}
 use Rattle.sheet.specs.Reading.{noEntry}
-use Rattle.sheet.specs.Values.{DaysFit, no-days, a-day}
-use Rattle.sheet.proofs.Laws.Layout.{entries-length, entries-append}
+use Rattle.layout.specs.Values.{DaysFit, no-days, a-day}
+use Rattle.layout.proofs.Laws.{entries-length, entries-append}
 use Rattle.sheet.proofs.Laws.Good.{SoFar, begun, turned, ended}
 use Rattle.laying.specs.Laying.{laidOver}
 use Rattle.writer.specs.Parts.{Tested}

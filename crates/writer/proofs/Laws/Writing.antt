@@ -11,14 +11,14 @@ use lib.ListN.{length, take, drop, length-take}
 use lib.Seq.{length-take-le}
 use borrow.Author.Tests.{lt-ltb, le-ltb, not-true, not-false}
 use Rattle.answer.proofs.Laws.{again, apart}
-use Rattle.sheet.specs.declared.Entry.{Entry}
-use Rattle.sheet.specs.declared.Numbers.{Numbers}
-use Rattle.sheet.specs.declared.Trailer.{Trailer}
-use Rattle.sheet.specs.Layout.{entriesBytes, trailerBytes, trailerFor, sheetFor}
+use Rattle.layout.specs.declared.Entry.{Entry}
+use Rattle.layout.specs.declared.Numbers.{Numbers}
+use Rattle.layout.specs.declared.Trailer.{Trailer}
+use Rattle.layout.specs.Layout.{entriesBytes, trailerBytes, trailerFor, sheetFor}
 use Rattle.sheet.specs.Good.{good}
 use Rattle.sheet.specs.Parts.{goodTrailer}
-use Rattle.sheet.specs.Values.{NumbersFit}
-use Rattle.sheet.proofs.Laws.Layout.{TrailerFits, entries-length, sheet-length}
+use Rattle.layout.specs.Values.{NumbersFit}
+use Rattle.layout.proofs.Laws.{TrailerFits, entries-length, sheet-length}
 use Rattle.sheet.proofs.Laws.Good.{fair-trailer, sheet-bad, sheet-good}
 use Rattle.writer.specs.declared.Written.{Written}
 use Rattle.writer.specs.declared.Written.the-variants as written

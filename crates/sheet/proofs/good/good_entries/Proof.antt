@@ -2,7 +2,7 @@
 -- Assumes nothing.
 use borrow.Author.Needs.{needs}
 use Prim.Native.Nat.{_-_, _≤_}
-use Rattle.sheet.specs.Layout.{entriesOf}
+use Rattle.layout.specs.Layout.{entriesOf}
 use Rattle.sheet.proofs.Laws.Good.{SoFar, begun, turned-in-bytes, ended-in-bytes}
 use Rattle.sheet.proofs.good.good_entries.Statement.{statement}
 use Rattle.sheet.proofs.good.good_entries.Tie as tie

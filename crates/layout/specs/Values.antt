@@ -4,8 +4,8 @@
 use mathlib.Core.List.{List, [], _∷_}
 use Prim.Native.Nat.{ℕ, _<_}
 use lib.ListN.{getD}
-use Rattle.sheet.specs.declared.Entry.{Entry}
-use Rattle.sheet.specs.declared.Numbers.{Numbers}
+use Rattle.layout.specs.declared.Entry.{Entry}
+use Rattle.layout.specs.declared.Numbers.{Numbers}
 
 -- the elements of a lent slice of bytes
 abbrev pub AreBytes : List ℕ → Type 0

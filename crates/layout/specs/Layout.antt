@@ -12,9 +12,9 @@ use mir.Val.{toZ, ofZ}
 use Rattle.numbers.specs.Numbers.{bytes, at1, at2, at4}
 use Rattle.content.specs.declared.Content.{Content}
 use Rattle.content.specs.Content.{kindOf, dayOf, contentOf}
-use Rattle.sheet.specs.declared.Entry.{Entry}
-use Rattle.sheet.specs.declared.Trailer.{Trailer}
-use Rattle.sheet.specs.declared.Numbers.{Numbers}
+use Rattle.layout.specs.declared.Entry.{Entry}
+use Rattle.layout.specs.declared.Trailer.{Trailer}
+use Rattle.layout.specs.declared.Numbers.{Numbers}
 
 -- ---- to bytes
 

@@ -21,11 +21,11 @@ use Rattle.numbers.proofs.Laws.{none, more, num-bytes, bytes-num}
 use Rattle.content.specs.declared.Content.{Content}
 use Rattle.content.specs.Content.{dayOf}
 use Rattle.content.proofs.Laws.Content.{content-again}
-use Rattle.sheet.specs.declared.Entry.{Entry}
-use Rattle.sheet.specs.declared.Trailer.{Trailer}
-use Rattle.sheet.specs.Promises.{ContentsApart, OpenMeetsNoDay}
-use Rattle.sheet.specs.Values.{AreBytes, DaysFit, no-days, a-day}
-use Rattle.sheet.specs.Layout.{entryBytes, entriesBytes, trailerBytes, sheetBytes, entryOf, entriesOf, trailerOf, trailerIn, entryFor, contentIn}
+use Rattle.layout.specs.declared.Entry.{Entry}
+use Rattle.layout.specs.declared.Trailer.{Trailer}
+use Rattle.layout.specs.Promises.{ContentsApart, OpenMeetsNoDay}
+use Rattle.layout.specs.Values.{AreBytes, DaysFit, no-days, a-day}
+use Rattle.layout.specs.Layout.{entryBytes, entriesBytes, trailerBytes, sheetBytes, entryOf, entriesOf, trailerOf, trailerIn, entryFor, contentIn}
 
 -- ---- entries, one by one
 

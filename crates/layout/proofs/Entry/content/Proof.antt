@@ -3,8 +3,8 @@
 use mir.Syntax.{w32}
 use mir.Facts.{toZ-ofZ}
 use borrow.Author.Needs.{needs}
-use Rattle.sheet.proofs.Entry.content.Statement.{statement}
-use Rattle.sheet.proofs.Entry.content.Tie as tie
+use Rattle.layout.proofs.Entry.content.Statement.{statement}
+use Rattle.layout.proofs.Entry.content.Tie as tie
 
 signed-requires : tie.Need-signed-requires
 signed-requires c κs = search needs

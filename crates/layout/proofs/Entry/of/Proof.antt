@@ -3,8 +3,8 @@
 use mir.Syntax.{w32}
 use mir.Facts.{toZ-ofZ}
 use borrow.Author.Needs.{needs}
-use Rattle.sheet.proofs.Entry.of.Statement.{statement}
-use Rattle.sheet.proofs.Entry.of.Tie as tie
+use Rattle.layout.proofs.Entry.of.Statement.{statement}
+use Rattle.layout.proofs.Entry.of.Tie as tie
 
 kind-requires : tie.Need-kind-requires
 kind-requires c κs = search needs
