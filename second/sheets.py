@@ -126,7 +126,7 @@ def content(entry: Entry) -> str:
 
 
 def line(record: bytes) -> str:
-    """What the program `sheets` must print for this record, without the line feed."""
+    """What the program `reread` must print for this record, without the line feed."""
     sheet = read(record)
     # "Reading a sheet: 13."
     if sheet is None:

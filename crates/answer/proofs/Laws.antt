@@ -2,6 +2,7 @@
 --   answered-only-if, answered-if, changed-if      a call is carried out exactly if no rule applies
 --   refused-only-if, refused-if, unchanged-if      it is refused with k exactly if the first rule that applies has the number k, and
 --                                                  changes nothing then
+--   first-that-applies : FirstThatApplies, refused-changes-nothing : RefusedChangesNothing (specs/Promises.antt)
 --   refused-is-not-answered                        a refusal is no other answer
 --   apart, again                                   answers have different meanings: shown by a function, mostly `again`, that finds the answer
 -- Assumes nothing.
@@ -10,12 +11,8 @@ use mathlib.Core.Bool.{Bool, true, false}
 use mathlib.Core.List.{List, [], _∷_}
 use Prim.Native.Nat.{ℕ}
 use native.Mathlib.Omega.{arith}
+use Rattle.answer.specs.Promises.{Silent, First, this, later, FirstThatApplies, RefusedChangesNothing}
 use Rattle.answer.specs.Answer.{Answer, refused, answered, Rule, answer, leaves}
-
--- no rule applies: a pair for each rule, in their order
-abbrev pub Silent : List Rule → Type 0
-Silent [] = Unit {0}
-Silent (r ∷ rs) = (r .applies ≡ false) × Silent rs
 
 pub refused-is-not-answered : {A : Type 0} (k : ℕ) (a : A) → refused k ≡ answered a → ⊥
 refused-is-not-answered k a e = let z : _≡_ {A = ℕ} 0 1 = cc in omega arith
@@ -46,11 +43,6 @@ changed-if (r ∷ rs) before after s = rw (s .0) (changed-if rs before after (s 
 
 -- ---- refused
 
--- the rule with this number is the first that applies
-pub data First (k : ℕ) : List Rule → Type 0 where
-  this : {r : Rule} {rs : List Rule} → r .applies ≡ true → r .number ≡ k → First k (r ∷ rs)
-  later : {r : Rule} {rs : List Rule} → r .applies ≡ false → First k rs → First k (r ∷ rs)
-
 pub refused-only-if : {A : Type 0} (rs : List Rule) (a : A) (k : ℕ) → answer rs a ≡ refused k → First k rs
 refused-only-if [] a k e = absurd (refused-is-not-answered k a (sym e))
 refused-only-if (r ∷ rs) a k e = by-test (refused-only-if rs a k) (r .applies) refl
@@ -67,6 +59,18 @@ refused-if a (later p f) = rw p (refused-if a f)
 pub unchanged-if : {A : Type 0} {rs : List Rule} {k : ℕ} (before after : A) → First k rs → leaves rs before after ≡ before
 unchanged-if before after (this p n) = rw p
 unchanged-if before after (later p f) = rw p (unchanged-if before after f)
+
+-- ---- as specs/Promises.antt states it
+
+pub first-that-applies : {A : Type 0} (rs : List Rule) (a : A) → FirstThatApplies rs a
+first-that-applies rs a =
+    record {
+      refused-exactly = λ k. (refused-only-if rs a k, refused-if a);
+      answered-exactly = (λ e. answered-only-if rs a a e .0, answered-if rs a);
+    }
+
+pub refused-changes-nothing : RefusedChangesNothing
+refused-changes-nothing A B rs b k before after e = unchanged-if before after (refused-only-if rs b k e)
 
 -- ---- meanings
 

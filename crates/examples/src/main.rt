@@ -85,7 +85,7 @@ fn standing(c: Content, today: i32) {
     }
 }
 
-// Example 8: a date's day, and the date of that day.
+// Example 8: a date's day.
 fn date(year: u16, month: u8, day: u8) {
     let t = Date { year, month, day };
     say_date(t);

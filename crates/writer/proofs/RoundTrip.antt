@@ -11,7 +11,8 @@ use lib.ListN.{length, take, drop}
 use lib.Seq.{take-at}
 use borrow.Author.Tests.{le-ltb, not-false}
 use Rattle.answer.specs.Answer.{answered, _if_}
-use Rattle.answer.proofs.Laws.{Silent, answered-only-if, answered-if, changed-if}
+use Rattle.answer.specs.Promises.{Silent}
+use Rattle.answer.proofs.Laws.{answered-only-if, answered-if, changed-if}
 use Rattle.layout.specs.declared.Entry.{Entry}
 use Rattle.layout.specs.declared.Numbers.{Numbers}
 use Rattle.layout.specs.declared.Trailer.{Trailer}

@@ -1,4 +1,4 @@
--- `num::pattern` meets its contract: z is 0 or more, and its own pattern, or -(k + 1), and -1 less z is k. Assumes nothing.
+-- `pattern` meets its contract: z is 0 or more, and its own pattern, or -(k + 1), and -1 less z is k. Assumes nothing.
 use mathlib.Core.Path.{ap, sym, _∙_}
 use native.Mathlib.Omega.{arith}
 use mir.Syntax.{w32}

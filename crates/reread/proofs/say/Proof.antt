@@ -1,10 +1,10 @@
--- `sheets::say` lends a part of the line that the line has.
+-- `reread::say` lends a part of the line that the line has.
 -- Assumes nothing.
 use mathlib.Core.Path.{sym}
 use lib.Seq.{length-take-le}
 use borrow.Author.Needs.{needs}
-use Rattle.sheets.proofs.say.Statement.{statement}
-use Rattle.sheets.proofs.say.Tie as tie
+use Rattle.reread.proofs.say.Statement.{statement}
+use Rattle.reread.proofs.say.Tie as tie
 
 slice-aggregate-write-all : tie.Need-slice-aggregate-write-all
 slice-aggregate-write-all c = sym (length-take-le _ _ (search needs))

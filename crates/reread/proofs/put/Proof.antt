@@ -1,11 +1,11 @@
--- `sheets::put` is safe and ends: it goes through the text, and the line keeps its length.
+-- `reread::put` is safe and ends: it goes through the text, and the line keeps its length.
 -- Assumes nothing.
 use Prim.Native.Nat.{_≤_, _-_}
 use mathlib.Core.Path.{_≡_}
 use lib.ListN.{length}
 use borrow.Author.Needs.{needs}
-use Rattle.sheets.proofs.put.Statement.{statement}
-use Rattle.sheets.proofs.put.Tie as tie
+use Rattle.reread.proofs.put.Statement.{statement}
+use Rattle.reread.proofs.put.Tie as tie
 
 abbrev Inv-loop : tie.InvT-loop
 Inv-loop line₀ at text at₀ i₀ line at' i = (i ≤ length text) × (length line ≡ length line₀)

@@ -1,10 +1,10 @@
--- `sheets::without_sign` casts a day to 64 bits, which holds it.
+-- `reread::without_sign` casts a day to 64 bits, which holds it.
 -- Assumes nothing.
 use mir.Syntax.{w32, w64}
 use mir.Facts.{toZ-ofZ, sfits-widen}
 use borrow.Author.Needs.{needs}
-use Rattle.sheets.proofs.without_sign.Statement.{statement}
-use Rattle.sheets.proofs.without_sign.Tie as tie
+use Rattle.reread.proofs.without_sign.Statement.{statement}
+use Rattle.reread.proofs.without_sign.Tie as tie
 
 cast-magnitude : tie.Need-cast-magnitude
 cast-magnitude c = rw (toZ-ofZ (c .fits .day)) (sfits-widen {w = w32} {w′ = w64} tt (c .fits .day))

@@ -1,11 +1,11 @@
--- `sheets::entries_again` is safe and ends: it fills the 64 places, one a turn.
+-- `reread::entries_again` is safe and ends: it fills the 64 places, one a turn.
 -- Assumes nothing.
 use Prim.Native.Nat.{_≤_, _-_}
 use mathlib.Core.Path.{_≡_}
 use lib.ListN.{length}
 use borrow.Author.Needs.{needs}
-use Rattle.sheets.proofs.entries_again.Statement.{statement}
-use Rattle.sheets.proofs.entries_again.Tie as tie
+use Rattle.reread.proofs.entries_again.Statement.{statement}
+use Rattle.reread.proofs.entries_again.Tie as tie
 
 abbrev Inv-loop : tie.InvT-loop
 Inv-loop s es₀ k₀ es k = (k ≤ 64) × (length es ≡ 64)

@@ -1,10 +1,10 @@
--- `sheets::is_first` lends a part of the room that the room has.
+-- `reread::is_first` lends a part of the room that the room has.
 -- Assumes nothing.
 use mathlib.Core.Path.{sym}
 use lib.Seq.{length-take-le}
 use borrow.Author.Needs.{needs}
-use Rattle.sheets.proofs.is_first.Statement.{statement}
-use Rattle.sheets.proofs.is_first.Tie as tie
+use Rattle.reread.proofs.is_first.Statement.{statement}
+use Rattle.reread.proofs.is_first.Tie as tie
 
 returns : tie.Need-returns
 returns c = search needs

@@ -1,11 +1,11 @@
--- `sheets::put_entries` is safe and ends: it goes through the entries, and the line keeps its length.
+-- `reread::put_entries` is safe and ends: it goes through the entries, and the line keeps its length.
 -- Assumes nothing.
 use Prim.Native.Nat.{_≤_, _-_}
 use mathlib.Core.Path.{_≡_}
 use lib.ListN.{length}
 use borrow.Author.Needs.{needs}
-use Rattle.sheets.proofs.put_entries.Statement.{statement}
-use Rattle.sheets.proofs.put_entries.Tie as tie
+use Rattle.reread.proofs.put_entries.Statement.{statement}
+use Rattle.reread.proofs.put_entries.Tie as tie
 
 abbrev Inv-loop : tie.InvT-loop
 Inv-loop line₀ at s count at₀ k₀ line at' k = (k ≤ count) × (length line ≡ length line₀)

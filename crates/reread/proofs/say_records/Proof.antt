@@ -1,11 +1,11 @@
--- `sheets::say_records` is safe and ends: each record moves on in the input, and the line keeps its length.
+-- `reread::say_records` is safe and ends: each record moves on in the input, and the line keeps its length.
 -- Assumes nothing.
 use Prim.Native.Nat.{_-_}
 use mathlib.Core.Path.{_≡_}
 use lib.ListN.{length}
 use borrow.Author.Needs.{needs}
-use Rattle.sheets.proofs.say_records.Statement.{statement}
-use Rattle.sheets.proofs.say_records.Tie as tie
+use Rattle.reread.proofs.say_records.Statement.{statement}
+use Rattle.reread.proofs.say_records.Tie as tie
 
 abbrev Inv-loop : tie.InvT-loop
 Inv-loop line₀ input at₀ line at = length line ≡ length line₀
