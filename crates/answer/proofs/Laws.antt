@@ -2,7 +2,7 @@
 --   answered-only-if, answered-if, changed-if      a call is carried out exactly if no rule applies
 --   refused-only-if, refused-if, unchanged-if      it is refused with k exactly if the first rule that applies has the number k, and
 --                                                  changes nothing then
---   first-that-applies : FirstThatApplies, refused-changes-nothing : RefusedChangesNothing (specs/Promises.antt)
+--   first-that-applies : EveryCallAnswers, refused-changes-nothing : RefusedChangesNothing (specs/Promises.antt)
 --   refused-is-not-answered                        a refusal is no other answer
 --   apart, again                                   answers have different meanings: shown by a function, mostly `again`, that finds the answer
 -- Assumes nothing.
@@ -11,7 +11,7 @@ use mathlib.Core.Bool.{Bool, true, false}
 use mathlib.Core.List.{List, [], _∷_}
 use Prim.Native.Nat.{ℕ}
 use native.Mathlib.Omega.{arith}
-use Rattle.answer.specs.Promises.{Silent, First, this, later, FirstThatApplies, RefusedChangesNothing}
+use Rattle.answer.specs.Promises.{Silent, First, this, later, EveryCallAnswers, RefusedChangesNothing}
 use Rattle.answer.specs.Answer.{Answer, refused, answered, Rule, answer, leaves}
 
 pub refused-is-not-answered : {A : Type 0} (k : ℕ) (a : A) → refused k ≡ answered a → ⊥
@@ -62,8 +62,8 @@ unchanged-if before after (later p f) = rw p (unchanged-if before after f)
 
 -- ---- as specs/Promises.antt states it
 
-pub first-that-applies : {A : Type 0} (rs : List Rule) (a : A) → FirstThatApplies rs a
-first-that-applies rs a =
+pub first-that-applies : EveryCallAnswers
+first-that-applies A rs a =
     record {
       refused-exactly = λ k. (refused-only-if rs a k, refused-if a);
       answered-exactly = (λ e. answered-only-if rs a a e .0, answered-if rs a);

@@ -22,6 +22,9 @@ pub record FirstThatApplies {A : Type 0} (rs : List Rule) (a : A) : Type 0 where
   pub refused-exactly : (k : ℕ) → (answer rs a ≡ refused k) ↔ First k rs
   pub answered-exactly : (answer rs a ≡ answered a) ↔ Silent rs
 
+abbrev pub EveryCallAnswers : Type 1
+EveryCallAnswers = (A : Type 0) (rs : List Rule) (a : A) → FirstThatApplies rs a
+
 -- demand 1: "a refused call changes no record and no lent byte"
 abbrev pub RefusedChangesNothing : Type 1
 RefusedChangesNothing =

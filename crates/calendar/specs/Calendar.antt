@@ -66,9 +66,9 @@ dayNumberOf t = answer (22 if not (isDate t) ∷ []) (numberOf t)
 
 -- ---- a day's date
 
--- of the day that lies i days after 1 January 1901: its year, counted from 1901, is the last that begins no later
+-- of the day that lies i days after 1 January 1901: its year, counted from 1901 and up to 2199, is the last that begins no later
 abbrev pub yearAt : ℕ → ℕ
-yearAt i = spanOf yearLength 298 i
+yearAt i = spanOf yearLength (2199 - 1901) i
 
 -- so many days of that year lie before it
 abbrev pub dayInYear : ℕ → ℕ
@@ -114,8 +114,8 @@ lastDate = record { year = 2199; month = 12; day = 31 }
 
 abbrev pub saidDay : DayAnswer → Answer ℤ
 saidDay (day.Day z) = answered z
-saidDay (day.Refused no′) = refused no′
+saidDay (day.Refused k) = refused k
 
 abbrev pub saidDate : DateAnswer → Answer Date
 saidDate (date.Date t) = answered t
-saidDate (date.Refused no′) = refused no′
+saidDate (date.Refused k) = refused k

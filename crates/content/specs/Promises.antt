@@ -34,16 +34,25 @@ pub record OnTheDay (d : ℤ) : Type 0 where
   pub still-cleared : cleared (standingOn (Day d) d) ≡ true
   pub not-past : past (standingOn (Day d) d) ≡ false
 
+abbrev pub OnEachDay : Type 0
+OnEachDay = (d : ℤ) → OnTheDay d
+
 -- "below 0 is past": so it stands on the next
 pub record OnTheNextDay (d : ℤ) : Type 0 where
   pub one-less : standingOn (Day d) (sucℤ d) ≡ left (negsuc 0)
   pub not-cleared : cleared (standingOn (Day d) (sucℤ d)) ≡ false
   pub is-past : past (standingOn (Day d) (sucℤ d)) ≡ true
 
+abbrev pub OnEachNextDay : Type 0
+OnEachNextDay = (d : ℤ) → OnTheNextDay d
+
 -- a day is past exactly on the days after it, and cleared on all others
 pub record PastAfter (d today : ℤ) : Type 0 where
   pub past-after : past (standingOn (Day d) today) ≡ ltZ d today
   pub else-cleared : cleared (standingOn (Day d) today) ≡ not (ltZ d today)
+
+abbrev pub PastExactlyAfter : Type 0
+PastExactlyAfter = (d today : ℤ) → PastAfter d today
 
 -- a blank is neither cleared nor past, on no day; open is cleared on every day
 pub record NoDay (today : ℤ) : Type 0 where
@@ -51,6 +60,9 @@ pub record NoDay (today : ℤ) : Type 0 where
   pub blank-not-past : past (standingOn Blank today) ≡ false
   pub open-cleared : cleared (standingOn Open today) ≡ true
   pub open-not-past : past (standingOn Open today) ≡ false
+
+abbrev pub WithoutADay : Type 0
+WithoutADay = (today : ℤ) → NoDay today
 
 -- "exact in 64 bits": the greatest day on the least, and the least on the greatest
 pub record BothEnds : Type 0 where

@@ -5,7 +5,7 @@
 // definitions of the crate's specs/ folder, each beside the sentence that it stands for. In it an
 // unsigned number is a natural number and a signed one an integer, of the same value; `now (s
 // .entry)` is the list of a lent slice's elements at the call, `now (s .exit)` the same at the end.
-// A promise is proved for the compiled code's source; nobody has to test it to rely on it.
+// A promise is proved of the source that is compiled; nobody has to test it to rely on it.
 ghost use mathlib.Core.Path.{_≡_};
 ghost use lib.IntN.{_-ℤ_};
 ghost use Rattle.answer.specs.Answer.{answered};

@@ -1,4 +1,4 @@
--- 01, "Examples at the edges": those "(P) marks .. for the proved table", as one list of cases and one statement over it, proved in
+-- 01, "Examples at the edges": "(P) marks those for the proved table": one list of cases and one statement over it, proved in
 -- proofs/Examples.antt. Here stand examples 1, 2, 3, 7 and 8; 4, 5 and 6 are a desk's and join the list with it.
 -- Assumes nothing.
 use mathlib.Core.Path.{_≡_}

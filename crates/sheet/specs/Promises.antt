@@ -28,6 +28,7 @@ pub record EntriesStand (s : List ℕ) (sheet : Sheet) : Type 0 where
   pub count : length (sheet .entries) ≡ sheet .numbers .entries
   pub in-place : (k : ℕ) → k < sheet .numbers .entries → entryAt s k ≡ getD (sheet .entries) k noEntry
   pub good-one : (k : ℕ) → k < sheet .numbers .entries → GoodEntry (sheet .numbers .cells) (entryAt s k)
+  pub rise : (j k : ℕ) → j < k → k < sheet .numbers .entries → entryAt s j .cell < entryAt s k .cell
 
 abbrev pub EntriesInPlace : Type 0
 EntriesInPlace = (s : List ℕ) (sheet : Sheet) → readOf s ≡ answered sheet → EntriesStand s sheet

@@ -1,6 +1,6 @@
 -- Laws of `standingOn`, `cleared`, `past` and `saidStanding` (specs/Standing.antt), as specs/Promises.antt states them.
 --   saidStanding-tells-apart : StandingsApart
---   on-the-day, on-the-next-day, past-after, no-day, both-ends
+--   on-the-day : OnEachDay, on-the-next-day : OnEachNextDay, past-after : PastExactlyAfter, no-day : WithoutADay, both-ends : BothEnds
 -- Assumes nothing.
 use mathlib.Core.Path.{_≡_, refl, ap, sym, _∙_}
 use mathlib.Core.Bool.{Bool, true, false, not, cond}
@@ -15,7 +15,7 @@ use Rattle.content.specs.declared.Content.the-variants.{Open, Day}
 use Rattle.content.specs.declared.Standing.{Standing}
 use Rattle.content.specs.declared.Standing.the-variants as standing
 use Rattle.content.specs.Standing.{Stands, unknown, no-end, left, standingOn, cleared, past, saidStanding}
-use Rattle.content.specs.Promises.{OnTheDay, OnTheNextDay, PastAfter, NoDay, BothEnds, StandingsApart}
+use Rattle.content.specs.Promises.{OnEachDay, OnEachNextDay, PastExactlyAfter, WithoutADay, BothEnds, StandingsApart}
 
 -- ---- the answer
 
@@ -36,12 +36,12 @@ saidStanding-tells-apart a b = apart saidStanding (again (λ k. standing.Unknown
 
 -- ---- on the day and on the next
 
-pub on-the-day : (d : ℤ) → OnTheDay d
+pub on-the-day : OnEachDay
 on-the-day d =
     let none : d -ℤ d ≡ pos 0 = +ℤ-invr d in
     record { none-left = ap left none; still-cleared = ap (λ (z : ℤ). cleared (left z)) none; not-past = ap (λ (z : ℤ). past (left z)) none }
 
-pub on-the-next-day : (d : ℤ) → OnTheNextDay d
+pub on-the-next-day : OnEachNextDay
 on-the-next-day d =
     let one : d -ℤ sucℤ d ≡ negsuc 0 = ap (λ (z : ℤ). d +ℤ z) (negℤ-sucℤ d) ∙ +ℤ-predℤ d (negℤ d) ∙ ap predℤ (+ℤ-invr d) in
     record { one-less = ap left one; not-cleared = ap (λ (z : ℤ). cleared (left z)) one; is-past = ap (λ (z : ℤ). past (left z)) one }
@@ -68,11 +68,11 @@ cleared-or-past : (z : ℤ) → cleared (left z) ≡ not (past (left z))
 cleared-or-past (pos n) = refl
 cleared-or-past (negsuc n) = refl
 
-pub past-after : (d today : ℤ) → PastAfter d today
+pub past-after : PastExactlyAfter
 past-after d today =
     record { past-after = past-is-after d today; else-cleared = cleared-or-past (d -ℤ today) ∙ ap not (past-is-after d today) }
 
-pub no-day : (today : ℤ) → NoDay today
+pub no-day : WithoutADay
 no-day today = record { blank-not-cleared = refl; blank-not-past = refl; open-cleared = refl; open-not-past = refl }
 
 pub both-ends : BothEnds

@@ -4,7 +4,7 @@
 --   saidRead-tells-apart : ReadingsApart (specs/Promises.antt)
 --   entries-in-place : EntriesInPlace (specs/Promises.antt)
 -- Assumes nothing.
-use mathlib.Core.Path.{_≡_, refl, sym, ap, _∙_, subst, subst⁻¹}
+use mathlib.Core.Path.{_≡_, refl, sym, ap, _∙_, subst, subst⁻¹, subst₂}
 use mathlib.Core.List.{List, [], _∷_}
 use mathlib.Core.Bool.{Bool, true, false, not, _&&_}
 use Prim.Native.Nat.{ℕ, zero, suc, _+_, _*_, _-_, _<_, _≤_}
@@ -20,7 +20,7 @@ use Rattle.layout.specs.declared.Trailer.{Trailer}
 use Rattle.sheet.specs.declared.Reading.{Reading}
 use Rattle.sheet.specs.declared.Reading.the-variants as reading
 use Rattle.layout.specs.Layout.{entriesOf, trailerIn, numbersOf}
-use Rattle.sheet.specs.Good.{every, rising, below, kindAndDay, good}
+use Rattle.sheet.specs.Good.{every, nextAbove, rising, below, kindAndDay, good}
 use Rattle.sheet.specs.Parts.{goodTrailer, goodEntries}
 use Rattle.sheet.specs.Reading.{Sheet, sheetIn, readOf, saidRead, noEntry, entryAt}
 use Rattle.sheet.specs.Promises.{GoodEntry, EntriesStand, EntriesInPlace, ReadingsApart}
@@ -107,10 +107,39 @@ good-one s g k h =
       open-or-day = open-or-day (getD es k noEntry) (at-entry kindAndDay es k long (tests .1));
     })
 
+-- cells that rise strictly from one entry to the next do so from any entry to any later one
+all-above : (c : ℕ) (es : List Entry) (k : ℕ) → k < length es → nextAbove c es ≡ true → rising es ≡ true → c < getD es k noEntry .cell
+all-above c [] k h n r = absurd (not-suc-le-zero h)
+all-above c (e ∷ es) zero h n r = ltb-true c (e .cell) n
+all-above c (e ∷ es) (suc k) h n r =
+    let tests = and-split (nextAbove (e .cell) es) (rising es) r in
+    let first : c < e .cell = ltb-true c (e .cell) n in
+    let later = all-above (e .cell) es k (le-of-suc-le-suc h) (tests .0) (tests .1) in
+    omega arith
+
+rise-from : (es : List Entry) (j k : ℕ) → j < k → k < length es → rising es ≡ true → getD es j noEntry .cell < getD es k noEntry .cell
+rise-from [] j k l h r = absurd (not-suc-le-zero h)
+rise-from (e ∷ es) j zero l h r = absurd (not-suc-le-zero l)
+rise-from (e ∷ es) zero (suc k) l h r =
+    let tests = and-split (nextAbove (e .cell) es) (rising es) r in
+    all-above (e .cell) es k (le-of-suc-le-suc h) (tests .0) (tests .1)
+rise-from (e ∷ es) (suc j) (suc k) l h r =
+    rise-from es j k (le-of-suc-le-suc l) (le-of-suc-le-suc h) (and-split (nextAbove (e .cell) es) (rising es) r .1)
+
+rise : (s : List ℕ) → good s ≡ true → (j k : ℕ) → j < k → k < trailerIn s .entries → entryAt s j .cell < entryAt s k .cell
+rise s g j k l h =
+    let t = trailerIn s in
+    let es = entriesOf (t .entries) s in
+    let lows = and-split (rising es && every (below (t .cells)) es) (every kindAndDay es) (good-entries-are s g) .0 in
+    let rises = and-split (rising es) (every (below (t .cells)) es) lows .0 in
+    let before : j < t .entries = omega arith in
+    let apart = rise-from es j k l (omega (arith, entries-count (t .entries) s)) rises in
+    subst₂ (λ (a b : Entry). a .cell < b .cell) (sym (entry-in-place s g j before)) (sym (entry-in-place s g k h)) apart
+
 pub entries-in-place : EntriesInPlace
 unfolding readOf
 entries-in-place s sheet e =
     let carried-out = answered-only-if (13 if not (good s) ∷ []) (sheetIn s (numbersOf (trailerIn s))) sheet e in
     let g : good s ≡ true = not-false (good s) (carried-out .0 .0) in
     subst (EntriesStand s) (carried-out .1)
-    (record { count = entries-count (trailerIn s .entries) s; in-place = entry-in-place s g; good-one = good-one s g })
+    (record { count = entries-count (trailerIn s .entries) s; in-place = entry-in-place s g; good-one = good-one s g; rise = rise s g })
