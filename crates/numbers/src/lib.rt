@@ -5,6 +5,7 @@
 // No function here refuses: each takes every value of its types.
 ghost use mathlib.Core.Path.{_≡_};
 ghost use mathlib.Core.List.{[], _∷_};
+ghost use Prim.Native.Nat.{_%_};
 ghost use lib.IntN.{natAbs};
 ghost use mir.Syntax.{w32};
 ghost use mir.Val.{toZ, ofZ};
@@ -80,4 +81,14 @@ pub fn magnitude(z: i64) -> u64
         let k = (-1 - z) as u64;
         k + 1
     }
+}
+
+// What a number leaves when divided; by 0 it leaves itself.
+pub fn left_by(n: u32, by: u8) -> u32
+    ensures { λ r. ⌜ r ≡ n % by ⌝ }
+{
+    if by == 0 {
+        return n;
+    }
+    n % (by as u32)
 }

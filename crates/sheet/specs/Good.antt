@@ -7,6 +7,7 @@ use mathlib.Core.Bool.{Bool, true, _&&_, _||_}
 use mathlib.Core.List.{List, [], _∷_}
 use lib.Dec.{eqb, leb, ltb}
 use lib.ListN.{length}
+use Rattle.numbers.specs.Limits.{within}
 use Rattle.layout.specs.declared.Entry.{Entry}
 use Rattle.layout.specs.Layout.{entriesOf, trailerIn}
 
@@ -32,10 +33,6 @@ below cells e = ltb (e .cell) cells
 -- "kinds, days .. are as above": "1 open, 2 day", and the day "zero for open"
 abbrev pub kindAndDay : Entry → Bool
 kindAndDay e = (eqb (e .kind) 1 && eqb (e .day) 0) || eqb (e .kind) 2
-
--- 01's table of limits: from 1 desk to 16, from 1 cell to 64
-abbrev pub within : ℕ → ℕ → ℕ → Bool
-within least most n = leb least n && leb n most
 
 -- 01's table: a sheet has 12 bytes at least. (That it has 396 at most follows: `good-within` in proofs/Laws/Good.antt.) Then the
 -- clauses of "A sheet is good if", one to a line

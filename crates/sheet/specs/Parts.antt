@@ -7,7 +7,8 @@ use mathlib.Core.List.{List}
 use lib.Dec.{eqb, leb, ltb}
 use Rattle.layout.specs.declared.Entry.{Entry}
 use Rattle.layout.specs.declared.Trailer.{Trailer}
-use Rattle.sheet.specs.Good.{every, rising, below, kindAndDay, within}
+use Rattle.numbers.specs.Limits.{within}
+use Rattle.sheet.specs.Good.{every, rising, below, kindAndDay}
 
 -- of a trailer that has so many bytes before it
 abbrev pub goodTrailer : Trailer → ℕ → Bool

@@ -1,22 +1,12 @@
 // The clauses of "A sheet is good if", of its trailer and of its entries.
 ghost use mathlib.Core.Path.{_≡_};
-ghost use Prim.Native.Nat.{_%_, _*_, _≤_};
+ghost use Prim.Native.Nat.{_*_, _≤_};
 ghost use lib.ListN.{length};
 ghost use Rattle.layout.specs.Layout.{entriesOf};
 ghost use Rattle.sheet.specs.Parts.{goodTrailer, goodEntry, goodEntries};
 use crate::bytes;
 use layout::Entry;
 use layout::Trailer;
-
-// What a turn number leaves when divided by desks; by no desks it leaves itself.
-fn left_by(turn: u32, desks: u8) -> u32
-    ensures { λ r. ⌜ r ≡ turn % desks ⌝ }
-{
-    if desks == 0 {
-        return turn;
-    }
-    turn % (desks as u32)
-}
 
 // A trailer with `back` bytes before it. Every test is made, so that the code is one straight line.
 pub fn good_trailer(t: Trailer, back: usize) -> bool
@@ -26,7 +16,7 @@ pub fn good_trailer(t: Trailer, back: usize) -> bool
         & (((1 <= t.desks) & (t.desks <= 16)) & ((1 <= t.cells) & (t.cells <= 64)))
         & (t.sender < t.desks)
         & ((t.zero6 == 0) & (t.zero7 == 0))
-        & ((t.turn <= 4294967294) & (left_by(t.turn, t.desks) == (t.sender as u32)))
+        & ((t.turn <= 4294967294) & (numbers::left_by(t.turn, t.desks) == (t.sender as u32)))
 }
 
 // An entry behind those of the cells below `least`, in a sheet of so many cells.

@@ -25,7 +25,8 @@ use Rattle.content.specs.Content.{contentOf}
 use Rattle.layout.specs.declared.Entry.{Entry}
 use Rattle.layout.specs.declared.Trailer.{Trailer}
 use Rattle.layout.specs.Layout.{trailerBytes, sheetBytes, entryOf, entriesOf, trailerIn, entryFor}
-use Rattle.sheet.specs.Good.{every, nextAbove, rising, below, kindAndDay, within, good}
+use Rattle.numbers.specs.Limits.{within}
+use Rattle.sheet.specs.Good.{every, nextAbove, rising, below, kindAndDay, good}
 use Rattle.sheet.specs.Promises.{OpenOrDay, is-open, is-day}
 use Rattle.layout.specs.Values.{DaysFit}
 use Rattle.sheet.specs.Reading.{noEntry}

@@ -1,9 +1,9 @@
--- `good::left_by` meets its contract: the logic's remainder by 0 is the number itself.
+-- `left_by` meets its contract: the logic's remainder by 0 is the number itself.
 -- Assumes nothing.
 use native.Mathlib.Nat.{mod-zero}
 use borrow.Author.Needs.{needs}
-use Rattle.sheet.proofs.good.left_by.Statement.{statement}
-use Rattle.sheet.proofs.good.left_by.Tie as tie
+use Rattle.numbers.proofs.left_by.Statement.{statement}
+use Rattle.numbers.proofs.left_by.Tie as tie
 
 returns : tie.Need-returns
 returns c = rw (c .if1 .taken, mod-zero)
