@@ -2,16 +2,19 @@
 --   answered-only-if, answered-if, changed-if      a call is carried out exactly if no rule applies
 --   refused-only-if, refused-if, unchanged-if      it is refused with k exactly if the first rule that applies has the number k, and
 --                                                  changes nothing then
+--   silent-if-0, first-if-number, number-of-first, number-of-silent      what the number of the first rule that applies says (specs/Parts.antt)
+--   first-of-both, second-of-both                  rules that are tested in two parts
 --   first-that-applies : EveryCallAnswers, refused-changes-nothing : RefusedChangesNothing (specs/Promises.antt)
 --   refused-is-not-answered                        a refusal is no other answer
 --   apart, again                                   answers have different meanings: shown by a function, mostly `again`, that finds the answer
 -- Assumes nothing.
 use mathlib.Core.Path.{_≡_, refl, sym, ap, _∙_}
 use mathlib.Core.Bool.{Bool, true, false}
-use mathlib.Core.List.{List, [], _∷_}
+use mathlib.Core.List.{List, [], _∷_, _++_}
 use Prim.Native.Nat.{ℕ}
 use native.Mathlib.Omega.{arith}
 use Rattle.answer.specs.Promises.{Silent, First, this, later, EveryCallAnswers, RefusedChangesNothing}
+use Rattle.answer.specs.Parts.{numberOf, Numbered}
 use Rattle.answer.specs.Answer.{Answer, refused, answered, Rule, answer, leaves}
 
 pub refused-is-not-answered : {A : Type 0} (k : ℕ) (a : A) → refused k ≡ answered a → ⊥
@@ -59,6 +62,52 @@ refused-if a (later p f) = rw p (refused-if a f)
 pub unchanged-if : {A : Type 0} {rs : List Rule} {k : ℕ} (before after : A) → First k rs → leaves rs before after ≡ before
 unchanged-if before after (this p n) = rw p
 unchanged-if before after (later p f) = rw p (unchanged-if before after f)
+
+-- ---- by its number
+
+pub silent-if-0 : (rs : List Rule) → Numbered rs → numberOf rs ≡ 0 → Silent rs
+silent-if-0 [] some e = tt
+silent-if-0 (r ∷ rs) some e = by-test (silent-if-0 rs (some .1)) (r .applies) refl
+  where
+    by-test : (numberOf rs ≡ 0 → Silent rs) → (t : Bool) → r .applies ≡ t → Silent (r ∷ rs)
+    by-test rest true p = let z : r .number ≡ 0 = sym (rw p) ∙ e in absurd (omega (arith, some .0, z))
+    by-test rest false p = (p, rest (sym (rw p) ∙ e))
+
+pub first-if-number : (rs : List Rule) (k : ℕ) → numberOf rs ≡ k → (k ≡ 0 → ⊥) → First k rs
+first-if-number [] k e h = absurd (h (sym e))
+first-if-number (r ∷ rs) k e h = by-test (first-if-number rs k) (r .applies) refl
+  where
+    by-test : (numberOf rs ≡ k → (k ≡ 0 → ⊥) → First k rs) → (t : Bool) → r .applies ≡ t → First k (r ∷ rs)
+    by-test rest true p = let n : r .number ≡ k = sym (rw p) ∙ e in this p n
+    by-test rest false p = later p (rest (sym (rw p) ∙ e) h)
+
+pub number-of-silent : (rs : List Rule) → Silent rs → numberOf rs ≡ 0
+number-of-silent [] s = refl
+number-of-silent (r ∷ rs) s = rw (s .0) (number-of-silent rs (s .1))
+
+pub number-of-first : {rs : List Rule} {k : ℕ} → First k rs → numberOf rs ≡ k
+number-of-first (this p n) = rw p n
+number-of-first (later p f) = rw p (number-of-first f)
+
+pub first-is-some : {rs : List Rule} {k : ℕ} → Numbered rs → First k rs → k ≡ 0 → ⊥
+first-is-some some (this p n) e = let z = n ∙ e in omega (arith, some .0, z)
+first-is-some some (later p f) e = first-is-some (some .1) f e
+
+-- rules that are tested in two parts: where one of the first applies, the rest do not count; where none does, they alone count
+pub first-of-both : (rs more : List Rule) (k : ℕ) → numberOf rs ≡ k → (k ≡ 0 → ⊥) → numberOf (rs ++ more) ≡ k
+first-of-both [] more k e h = absurd (h (sym e))
+first-of-both (r ∷ rs) more k e h = by-test (first-of-both rs more k) (r .applies) refl
+  where
+    by-test : (numberOf rs ≡ k → (k ≡ 0 → ⊥) → numberOf (rs ++ more) ≡ k) → (t : Bool) → r .applies ≡ t → numberOf ((r ∷ rs) ++ more) ≡ k
+    by-test rest true p = rw p (sym (rw p) ∙ e)
+    by-test rest false p = rw p (rest (sym (rw p) ∙ e) h)
+
+pub second-of-both : (rs more : List Rule) → Numbered rs → numberOf rs ≡ 0 → numberOf (rs ++ more) ≡ numberOf more
+second-of-both rs more some e = by-silence rs (silent-if-0 rs some e)
+  where
+    by-silence : (rs : List Rule) → Silent rs → numberOf (rs ++ more) ≡ numberOf more
+    by-silence [] s = refl
+    by-silence (r ∷ rs) s = rw (s .0) (by-silence rs (s .1))
 
 -- ---- as specs/Promises.antt states it
 

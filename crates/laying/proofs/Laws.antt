@@ -1,15 +1,16 @@
 -- Laws of `laidOver` (specs/Laying.antt).
 --   laid, no-room                  with room the bytes are laid; without it nothing is
 --   laid-next                      what is laid right behind what was laid at the front is laid at the front too: two puts are one
+--   laid-behind                    the same anywhere in a buffer: what is laid right behind what was laid is laid with it
 --   PutSoFar, put-begun, put-turned, put-ended    the loop that lays bytes
 -- Assumes nothing.
 use mathlib.Core.Path.{_≡_, refl, sym, ap, _∙_}
-use mathlib.Core.List.{List, _++_}
+use mathlib.Core.List.{List, _++_, append-assoc}
 use Prim.Native.Nat.{ℕ, _+_, _<_, _≤_}
 use native.Mathlib.Omega.{arith}
 use native.Mathlib.Numerals.{add-one}
 use lib.ListN.{length, getD, set, take, drop, length-append, length-set, length-drop}
-use lib.Seq.{paste, paste-zero, paste-suc, take-all, take-append-seam, drop-append-add, drop-drop}
+use lib.Seq.{paste, paste-zero, paste-suc, length-take-le, take-all, take-append-seam, drop-append-add, drop-drop}
 use borrow.Author.Tests.{le-leb, lt-leb}
 use Rattle.laying.specs.Laying.{laidOver}
 
@@ -30,6 +31,21 @@ module _ (front x b : List ℕ) (room : length front + length x ≤ length b) wh
       let long : length (front ++ drop (length front) b) ≡ length b = length-append front (drop (length front) b) ∙ rw length-drop (omega arith) in
       laid (front ++ drop (length front) b) (length front) x (omega arith)
       ∙ rw (take-append-seam, drop-append-add, drop-drop, length-append)
+
+-- ---- behind what was laid anywhere
+
+pub laid-behind : (b : List ℕ) (at : ℕ) (x y : List ℕ) → at + length x + length y ≤ length b → laidOver (laidOver b at x) (at + length x) y ≡ laidOver b at (x ++ y)
+laid-behind b at x y room =
+    let head : length (take at b) ≡ at = length-take-le at b (omega arith) in
+    let front : List ℕ = take at b ++ x in
+    let long : length front ≡ at + length x = length-append (take at b) x ∙ rw head in
+    let all : length (take at b ++ (x ++ y)) ≡ at + length (x ++ y) = length-append (take at b) (x ++ y) ∙ rw head in
+    ap (λ (l : List ℕ). laidOver l (at + length x) y) (laid b at x (omega arith))
+    ∙ ap (λ (k : ℕ). laidOver (front ++ drop k b) k y) (sym long)
+    ∙ laid-next front y b (omega arith)
+    ∙ ap (λ (l : List ℕ). l ++ drop (length l) b) (append-assoc (take at b) x y)
+    ∙ ap (λ (k : ℕ). take at b ++ (x ++ y) ++ drop k b) all
+    ∙ sym (laid b at (x ++ y) (omega (arith, length-append x y)))
 
 -- ---- the loop
 

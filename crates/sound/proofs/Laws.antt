@@ -1,0 +1,4 @@
+pub mod Days
+pub mod Scans
+pub mod Clauses
+pub mod Sound

@@ -1,0 +1,5 @@
+pub mod Zeros
+pub mod Looking
+pub mod Holding
+pub mod Parts
+pub mod Places

@@ -1,0 +1,281 @@
+-- Laws of trays for whoever uses them: what a place holds after a sheet was put into it or it was cleared, and that the others stay.
+--   place-there                                  a tray of n places has the place of each desk below n
+--   held-long, cleared-long                      a tray is as long as before
+--   HoldsGood, holds-says, holds-if              what `holdsGood` says, as facts
+--   holds-not-free, holds-look                   a place that holds a good sheet is not free, and a look finds the sheet's numbers
+--   looked-free, looked-holds, looked-spoilt     what a look says of the place
+--   Held, held-found, held-holds, held-look      a sheet that was put into a place is found there
+--   cleared-free                                 a cleared place is free
+--   SamePlace, held-others, cleared-others       every other place stays, byte for byte
+--   same-length-at, same-free, same-sheet, same-sheet-held, same-holds, same-look      and then it is in all respects as before
+-- Assumes nothing.
+use mathlib.Core.Path.{_≡_, refl, sym, ap, _∙_}
+use mathlib.Core.List.{List, _++_}
+use mathlib.Core.Bool.{Bool, true, false, and-true, and-false}
+use Prim.Native.Nat.{ℕ, _+_, _*_, _-_, _<_, _≤_}
+use native.Mathlib.Omega.{arith}
+use native.Mathlib.Nat.{add-zero}
+use lib.Dec.{eqb, leb, ltb}
+use lib.ListN.{length, take, drop, replicate, length-append, length-take, length-replicate}
+use lib.Seq.{take-append-seam, take-all, drop-at}
+use borrow.Author.Tests.{le-leb, lt-leb, leb-true, leb-false, ltb-true, ltb-false, eq-eqb, ne-eqb}
+use Rattle.numbers.specs.Numbers.{bytes, at1, at2}
+use Rattle.laying.specs.Laying.{laidOver}
+use Rattle.layout.specs.declared.Numbers.{Numbers}
+use Rattle.layout.specs.Layout.{trailerIn, numbersOf}
+use Rattle.sheet.specs.Good.{good}
+use Rattle.sheet.proofs.Laws.Bools.{and-split}
+use Rattle.sheet.proofs.Laws.Good.{good-within}
+use Rattle.tray.specs.declared.Place.{Place}
+use Rattle.tray.specs.declared.Place.the-variants as place
+use Rattle.tray.specs.Tray.{start, lengthAt, free, sheetAt, restAt, zeros, holdsGood, placeOf, placeBytes, heldIn, clearedIn}
+use Rattle.tray.proofs.Laws.Zeros.{zeros-are}
+use Rattle.tray.proofs.Laws.Looking.{place-free, place-holds, place-spoilt}
+use Rattle.tray.proofs.Laws.Holding.{place-long, held-not, held-is}
+use Rattle.tray.proofs.Laws.Parts.{laid-long, laid-inside, laid-before, laid-after, part-of, byte-of}
+
+-- ---- a tray of n places
+
+pub place-there : (tray : List ℕ) (n q : ℕ) → length tray ≡ 398 * n → q < n → start q + 398 ≤ length tray
+place-there tray n q long h = omega arith
+
+-- ---- as long as before
+
+module _ (tray : List ℕ) (q : ℕ) (s : List ℕ) where
+  -- a fact about what putting a sheet into a place leaves, from the two cases
+  by-size : (P : List ℕ → Type 0) → (length s ≤ 396 → P (laidOver tray (start q) (placeBytes s))) → P tray → P (heldIn tray q s)
+  by-size P put kept = by-test (leb (length s) 396) refl
+    where
+      by-test : (t : Bool) → leb (length s) 396 ≡ t → P (heldIn tray q s)
+      by-test true e = let few = leb-true (length s) 396 e in rw (held-is tray q s few) (put few)
+      by-test false e = rw (held-not tray q s (leb-false (length s) 396 e)) kept
+
+  pub held-long : length (heldIn tray q s) ≡ length tray
+  held-long = by-size (λ (l : List ℕ). length l ≡ length tray) (λ few. laid-long tray (start q) (placeBytes s)) refl
+
+pub cleared-long : (tray : List ℕ) (q : ℕ) → length (clearedIn tray q) ≡ length tray
+unfolding clearedIn
+cleared-long tray q = laid-long tray (start q) (replicate 398 0)
+
+-- ---- what `holdsGood` says
+
+pub record HoldsGood (tray : List ℕ) (q : ℕ) : Type 0 where
+  pub room : start q + 398 ≤ length tray
+  pub few : lengthAt tray q ≤ 396
+  pub sheet-good : good (sheetAt tray q) ≡ true
+  pub rest-zeros : zeros (restAt tray q) ≡ true
+
+module _ (tray : List ℕ) (q : ℕ) where
+  pub holds-says : holdsGood tray q ≡ true → HoldsGood tray q
+  unfolding holdsGood
+  holds-says h =
+      let rest = and-split _ _ h in
+      let sheet = and-split _ _ (rest .0) in
+      let size = and-split _ _ (sheet .0) in
+      record {
+        room = leb-true _ _ (size .0);
+        few = leb-true _ _ (size .1);
+        sheet-good = sheet .1;
+        rest-zeros = rest .1;
+      }
+
+  pub holds-if : HoldsGood tray q → holdsGood tray q ≡ true
+  unfolding holdsGood
+  holds-if h =
+      rw (le-leb (start q + 398) (length tray) (h .room), le-leb (lengthAt tray q) 396 (h .few), h .sheet-good, h .rest-zeros)
+
+  pub holds-not-free : holdsGood tray q ≡ true → free tray q ≡ false
+  holds-not-free h =
+      let within = good-within (sheetAt tray q) (holds-says h .sheet-good) in
+      ne-eqb (lengthAt tray q) 0 (λ e. omega (arith, within .0, length-take (lengthAt tray q) (drop (start q + 2) tray)))
+
+  pub holds-look : holdsGood tray q ≡ true → placeOf tray q ≡ place.Holds (numbersOf (trailerIn (sheetAt tray q)))
+  holds-look h = place-holds tray q (holds-not-free h) h
+
+-- ---- what a look says
+
+module _ (tray : List ℕ) (q : ℕ) where
+  -- a fact about a look, from its three cases
+  by-place : (P : Place → Type 0)
+      → (free tray q ≡ true → P place.Free)
+      → (holdsGood tray q ≡ true → P (place.Holds (numbersOf (trailerIn (sheetAt tray q)))))
+      → (free tray q ≡ false → holdsGood tray q ≡ false → P place.Spoilt)
+      → P (placeOf tray q)
+  by-place P none held neither = by-free (free tray q) refl
+    where
+      by-good : free tray q ≡ false → (g : Bool) → holdsGood tray q ≡ g → P (placeOf tray q)
+      by-good f true g = rw (place-holds tray q f g) (held g)
+      by-good f false g = rw (place-spoilt tray q f g) (neither f g)
+
+      by-free : (f : Bool) → free tray q ≡ f → P (placeOf tray q)
+      by-free true f = rw (place-free tray q f) (none f)
+      by-free false f = by-good f (holdsGood tray q) refl
+
+  pub looked-free : placeOf tray q ≡ place.Free → free tray q ≡ true
+  looked-free =
+      by-place (λ (p : Place). p ≡ place.Free → free tray q ≡ true)
+      (λ f e. f)
+      (λ g e. let z : _≡_ {A = ℕ} 0 1 = cc in absurd (omega arith))
+      (λ f g e. let z : _≡_ {A = ℕ} 0 1 = cc in absurd (omega arith))
+
+  pub looked-holds : (n : Numbers) → placeOf tray q ≡ place.Holds n → (holdsGood tray q ≡ true) × (n ≡ numbersOf (trailerIn (sheetAt tray q)))
+  looked-holds n =
+      by-place (λ (p : Place). p ≡ place.Holds n → (holdsGood tray q ≡ true) × (n ≡ numbersOf (trailerIn (sheetAt tray q))))
+      (λ f e. let z : _≡_ {A = ℕ} 0 1 = cc in absurd (omega arith))
+      (λ g e. (g, cc))
+      (λ f g e. let z : _≡_ {A = ℕ} 0 1 = cc in absurd (omega arith))
+
+  pub looked-spoilt : placeOf tray q ≡ place.Spoilt → (free tray q ≡ false) × (holdsGood tray q ≡ false)
+  looked-spoilt =
+      by-place (λ (p : Place). p ≡ place.Spoilt → (free tray q ≡ false) × (holdsGood tray q ≡ false))
+      (λ f e. let z : _≡_ {A = ℕ} 0 1 = cc in absurd (omega arith))
+      (λ g e. let z : _≡_ {A = ℕ} 0 1 = cc in absurd (omega arith))
+      (λ f g e. (f, g))
+
+-- ---- a place by its 398 bytes
+
+abbrev pub bytesAt : List ℕ → ℕ → List ℕ
+bytesAt tray q = take 398 (drop (start q) tray)
+
+module _ (tray : List ℕ) (q : ℕ) where
+  length-in : lengthAt tray q ≡ at2 (bytesAt tray q) 0
+  length-in =
+      let low : at1 tray (start q) ≡ at1 (bytesAt tray q) 0 = ap (at1 tray) (sym (add-zero (start q))) ∙ sym (byte-of tray 398 (start q) 0 (omega arith)) in
+      let high : at1 tray (start q + 1) ≡ at1 (bytesAt tray q) 1 = sym (byte-of tray 398 (start q) 1 (omega arith)) in
+      omega arith
+
+  module _ (few : lengthAt tray q ≤ 396) where
+    sheet-in : sheetAt tray q ≡ take (lengthAt tray q) (drop 2 (bytesAt tray q))
+    sheet-in = sym (part-of tray 398 (start q) 2 (lengthAt tray q) (omega arith))
+
+    rest-in : restAt tray q ≡ take (396 - lengthAt tray q) (drop (2 + lengthAt tray q) (bytesAt tray q))
+    rest-in =
+        let there : start q + 2 + lengthAt tray q ≡ start q + (2 + lengthAt tray q) = omega arith in
+        ap (λ (k : ℕ). take (396 - lengthAt tray q) (drop k tray)) there
+        ∙ sym (part-of tray 398 (start q) (2 + lengthAt tray q) (396 - lengthAt tray q) (omega arith))
+
+-- ---- a sheet that was put into a place
+
+-- the place of desk q holds s, in its first bytes, and zeros behind it
+pub record Held (tray : List ℕ) (q : ℕ) (s : List ℕ) : Type 0 where
+  pub length-is : lengthAt tray q ≡ length s
+  pub sheet-is : sheetAt tray q ≡ s
+  pub rest-zeros : zeros (restAt tray q) ≡ true
+
+-- whatever the place's bytes are, if they are those of s
+held-by : (tray : List ℕ) (q : ℕ) (s : List ℕ) → length s ≤ 396 → bytesAt tray q ≡ placeBytes s → Held tray q s
+held-by tray q s few e =
+    let long : lengthAt tray q ≡ length s = length-in tray q ∙ ap (λ (l : List ℕ). at2 l 0) e ∙ omega arith in
+    let short : lengthAt tray q ≤ 396 = omega arith in
+    let tail : List ℕ = replicate (396 - length s) 0 in
+    let many : length tail ≡ 396 - length s = length-replicate (396 - length s) 0 in
+    let sheet : sheetAt tray q ≡ s =
+    sheet-in tray q short ∙ ap (λ (l : List ℕ). take (lengthAt tray q) (drop 2 l)) e ∙ ap (λ (n : ℕ). take n (s ++ tail)) long ∙ take-append-seam s tail
+    in
+    let rest : restAt tray q ≡ tail =
+    rest-in tray q short
+    ∙ ap (λ (l : List ℕ). take (396 - lengthAt tray q) (drop (2 + lengthAt tray q) l)) e
+    ∙ ap (λ (n : ℕ). take (396 - n) (drop (2 + n) (placeBytes s))) long
+    ∙ ap (λ (l : List ℕ). take (396 - length s) l) (drop-at (bytes 2 (length s) ++ s) tail (2 + length s) (omega (arith, length-append (bytes 2 (length s)) s)))
+    ∙ take-all (396 - length s) tail (omega arith)
+    in
+    record { length-is = long; sheet-is = sheet; rest-zeros = ap zeros rest ∙ zeros-are (396 - length s) }
+
+module _ (tray : List ℕ) (q : ℕ) (s : List ℕ) where
+  pub held-found : length s ≤ 396 → start q + 398 ≤ length tray → Held (heldIn tray q s) q s
+  held-found few room =
+      let all = place-long s few in
+      held-by (heldIn tray q s) q s few
+      (ap (λ (l : List ℕ). bytesAt l q) (held-is tray q s few)
+      ∙ ap (λ (n : ℕ). take n (drop (start q) (laidOver tray (start q) (placeBytes s)))) (sym all)
+      ∙ laid-inside tray (start q) (placeBytes s) (omega arith))
+
+  pub held-holds : length s ≤ 396 → start q + 398 ≤ length tray → holdsGood (heldIn tray q s) q ≡ good s
+  unfolding holdsGood
+  held-holds few room =
+      let found = held-found few room in
+      rw (le-leb (start q + 398) (length (heldIn tray q s)) (omega (arith, held-long tray q s)), le-leb (lengthAt (heldIn tray q s) q) 396 (omega (arith, found .length-is)), found .sheet-is, found .rest-zeros)
+      (and-true (good s))
+
+  pub held-look : good s ≡ true → start q + 398 ≤ length tray → placeOf (heldIn tray q s) q ≡ place.Holds (numbersOf (trailerIn s))
+  held-look g room =
+      let few = good-within s g .1 in
+      holds-look (heldIn tray q s) q (held-holds few room ∙ g)
+      ∙ ap (λ (l : List ℕ). place.Holds (numbersOf (trailerIn l))) (held-found few room .sheet-is)
+
+-- ---- a place that was cleared
+
+pub cleared-free : (tray : List ℕ) (q : ℕ) → start q + 398 ≤ length tray → free (clearedIn tray q) q ≡ true
+unfolding clearedIn
+cleared-free tray q room =
+    let many : length (replicate {A = ℕ} 398 0) ≡ 398 = length-replicate {A = ℕ} 398 0 in
+    let all : bytesAt (clearedIn tray q) q ≡ replicate 398 0 = laid-inside tray (start q) (replicate 398 0) (omega arith) in
+    eq-eqb (lengthAt (clearedIn tray q) q) 0 (length-in (clearedIn tray q) q ∙ ap (λ (l : List ℕ). at2 l 0) all)
+
+-- ---- the other places
+
+pub record SamePlace (t u : List ℕ) (p : ℕ) : Type 0 where
+  pub long : length t ≡ length u
+  pub bytes : take 398 (drop (start p) t) ≡ take 398 (drop (start p) u)
+
+others : (tray : List ℕ) (p q : ℕ) (x : List ℕ) → (p ≡ q → ⊥) → length x ≡ 398 → SamePlace (laidOver tray (start q) x) tray p
+others tray p q x apart many = record { long = laid-long tray (start q) x; bytes = by-test (ltb p q) refl }
+  where
+    by-test : (t : Bool) → ltb p q ≡ t → bytesAt (laidOver tray (start q) x) p ≡ bytesAt tray p
+    by-test true e = let before = ltb-true p q e in laid-before tray (start q) x (start p) 398 (omega arith)
+    by-test false e =
+        let after = ltb-false p q e in
+        let further : q < p = omega arith in
+        ap (take 398) (laid-after tray (start q) x (start p) (omega arith))
+
+pub held-others : (tray : List ℕ) (p q : ℕ) (s : List ℕ) → (p ≡ q → ⊥) → SamePlace (heldIn tray q s) tray p
+held-others tray p q s apart =
+    by-size tray q s (λ (l : List ℕ). SamePlace l tray p) (λ few. others tray p q (placeBytes s) apart (place-long s few)) (record { long = refl; bytes = refl })
+
+pub cleared-others : (tray : List ℕ) (p q : ℕ) → (p ≡ q → ⊥) → SamePlace (clearedIn tray q) tray p
+unfolding clearedIn
+cleared-others tray p q apart = others tray p q (replicate 398 0) apart (length-replicate {A = ℕ} 398 0)
+
+module _ (t u : List ℕ) (p : ℕ) (same : SamePlace t u p) where
+  pub same-length-at : lengthAt t p ≡ lengthAt u p
+  same-length-at = length-in t p ∙ ap (λ (l : List ℕ). at2 l 0) (same .bytes) ∙ sym (length-in u p)
+
+  pub same-free : free t p ≡ free u p
+  same-free = ap (λ (n : ℕ). eqb n 0) same-length-at
+
+  module _ (few : lengthAt t p ≤ 396) where
+    pub same-sheet : sheetAt t p ≡ sheetAt u p
+    same-sheet =
+        sheet-in t p few
+        ∙ ap (λ (l : List ℕ). take (lengthAt t p) (drop 2 l)) (same .bytes)
+        ∙ ap (λ (n : ℕ). take n (drop 2 (bytesAt u p))) same-length-at
+        ∙ sym (sheet-in u p (omega (arith, same-length-at)))
+
+    same-rest : restAt t p ≡ restAt u p
+    same-rest =
+        rest-in t p few
+        ∙ ap (λ (l : List ℕ). take (396 - lengthAt t p) (drop (2 + lengthAt t p) l)) (same .bytes)
+        ∙ ap (λ (n : ℕ). take (396 - n) (drop (2 + n) (bytesAt u p))) same-length-at
+        ∙ sym (rest-in u p (omega (arith, same-length-at)))
+
+  pub same-holds : holdsGood t p ≡ holdsGood u p
+  unfolding holdsGood
+  same-holds = by-test (leb (lengthAt t p) 396) refl
+    where
+      by-test : (e : Bool) → leb (lengthAt t p) 396 ≡ e → holdsGood t p ≡ holdsGood u p
+      by-test true e =
+          let few = leb-true (lengthAt t p) 396 e in
+          rw (same .long, same-sheet few, same-rest few, same-length-at)
+      by-test false e =
+          let many = leb-false (lengthAt t p) 396 e in
+          simp (e, lt-leb (lengthAt u p) 396 (omega (arith, same-length-at)), and-false)
+
+  pub same-sheet-held : holdsGood t p ≡ true → sheetAt t p ≡ sheetAt u p
+  same-sheet-held h = same-sheet (holds-says t p h .few)
+
+  pub same-look : placeOf t p ≡ placeOf u p
+  same-look =
+      by-place t p (λ (x : Place). x ≡ placeOf u p)
+      (λ f. sym (place-free u p (sym same-free ∙ f)))
+      (λ g. ap (λ (l : List ℕ). place.Holds (numbersOf (trailerIn l))) (same-sheet-held g) ∙ sym (holds-look u p (sym same-holds ∙ g)))
+      (λ f g. sym (place-spoilt u p (sym same-free ∙ f) (sym same-holds ∙ g)))
