@@ -1,0 +1,6 @@
+pub mod Next
+pub mod Steps
+pub mod Writes
+pub mod Sends
+pub mod Looks
+pub mod Takes

@@ -1,0 +1,247 @@
+-- 01, "A desk, call by call", and the table of "Numbers given back": a definition for each call, which gives its answer, the next record
+-- and the lent bytes for every input.
+-- Assumes nothing.
+use Prim.Native.Nat.{ℕ, _+_, _*_}
+use mathlib.Core.Bool.{Bool, true, cond, not, _&&_}
+use mathlib.Core.List.{List, [], _∷_, _++_}
+use mathlib.Core.Option.{Option, none, some}
+use lib.Dec.{eqb, leb, ltb}
+use lib.IntN.{pos}
+use lib.ListN.{length, drop, replicate}
+use Rattle.answer.specs.Answer.{Rule, _if_}
+use Rattle.content.specs.declared.Content.{Content}
+use Rattle.content.specs.Content.{kindOf, dayOf}
+use Rattle.numbers.specs.Limits.{within}
+use Rattle.layout.specs.declared.Entry.{Entry}
+use Rattle.layout.specs.declared.Numbers.{Numbers}
+use Rattle.layout.specs.Layout.{entriesOf, trailerIn, numbersOf}
+use Rattle.sheet.specs.Good.{good}
+use Rattle.cells.specs.Cells.{contentAt, blank, filled, putIf}
+use Rattle.cells.specs.Cells as cells
+use Rattle.sound.specs.declared.Head.{Head}
+use Rattle.sound.specs.Head.{sequential, causal, turnDesk, ownTurn, readWaits, waitCell}
+use Rattle.sound.specs.Sound.{soundOf}
+use Rattle.tray.specs.Tray.{free, sheetAt, holdsGood, heldIn, clearedIn}
+use Rattle.pending.specs.Pending.{pendingEntries, sheetOf}
+use Rattle.applying.specs.Applying.{goes, laid, kindOn, dayOn, wentOf}
+use Rattle.desk.specs.declared.Desk.{Desk}
+use Rattle.desk.specs.Answers.{Value, opened, stored, holds, waits, sent, held, taken, Done, call}
+
+-- "A record is sound if .." (crates/sound/specs/Sound.antt)
+abbrev pub sound : Desk → Bool
+sound d = soundOf (d .head) (d .kind) (d .day) (d .pkind) (d .pday)
+
+-- the greatest turn number
+abbrev pub lastTurn : ℕ
+lastTurn = 4294967295
+
+-- ---- Open
+
+-- 1, 2, 3, 4: "desks, cells, own number, mode (above 3) outside its range"
+abbrev pub openRules : ℕ → ℕ → ℕ → ℕ → List Rule
+openRules n m own mode =
+    1 if not (within 1 16 n)
+    ∷ 2 if not (within 1 64 m)
+    ∷ 3 if leb n own
+    ∷ 4 if ltb 3 mode
+    ∷ []
+
+-- "Mode 0 means the default: causal."
+abbrev pub modeFor : ℕ → ℕ
+modeFor mode = cond (eqb mode 0) 2 mode
+
+-- a record with this head, "All cells blank, nothing pending"
+abbrev pub blankDesk : Head → Desk
+blankDesk h =
+    record {
+      head = h;
+      kind = replicate 64 0;
+      day = replicate 64 (pos 0);
+      pkind = replicate 64 0;
+      pday = replicate 64 (pos 0);
+    }
+
+-- "turn number 0", and no read waits
+abbrev pub freshHead : ℕ → ℕ → ℕ → ℕ → Head
+freshHead n m own mode = record { n = n; m = m; own = own; mode = mode; turn = 0; wait = 0 }
+
+-- "A refused open gives a record of zeros."
+unfoldable pub openOf : ℕ → ℕ → ℕ → ℕ → Done
+openOf n m own mode =
+    call (openRules n m own mode) (blankDesk (freshHead 0 0 0 0)) [] opened (blankDesk (freshHead n m own (modeFor mode))) []
+
+-- ---- Write
+
+-- 5 "record not sound", 6 "cell not below m", 7 "write of blank", 8 "a read waits at this desk"
+abbrev pub writeRules : Desk → ℕ → Content → List Rule
+writeRules d cell c =
+    5 if not (sound d)
+    ∷ 6 if leb (d .head .m) cell
+    ∷ 7 if eqb (kindOf c) 0
+    ∷ 8 if readWaits (d .head)
+    ∷ []
+
+-- "The cell takes the content; the content becomes that cell's pending entry, replacing an earlier one."
+abbrev pub writtenDesk : Desk → ℕ → Content → Desk
+writtenDesk d cell c =
+    record {
+      head = d .head;
+      kind = putIf true (d .kind) cell (kindOf c);
+      day = putIf true (d .day) cell (dayOf c);
+      pkind = putIf true (d .pkind) cell (kindOf c);
+      pday = putIf true (d .pday) cell (dayOf c);
+    }
+
+unfoldable pub writeOf : Desk → ℕ → Content → Done
+writeOf d cell c = call (writeRules d cell c) d [] stored (writtenDesk d cell c) []
+
+-- ---- Read
+
+-- 5, 6, 8
+abbrev pub readRules : Desk → ℕ → List Rule
+readRules d cell =
+    5 if not (sound d)
+    ∷ 6 if leb (d .head .m) cell
+    ∷ 8 if readWaits (d .head)
+    ∷ []
+
+-- "It waits exactly if the mode is sequential, something is pending, this cell is not, and the turn is elsewhere."
+unfoldable pub mustWait : Desk → ℕ → Bool
+mustWait d cell = sequential (d .head) && cells.some 64 (filled (d .pkind)) && blank (d .pkind) cell && not (ownTurn (d .head))
+
+-- the record with a read of this cell that waits
+abbrev pub waitingDesk : Desk → ℕ → Desk
+waitingDesk d cell =
+    let h = d .head in
+    record {
+      head = record { n = h .n; m = h .m; own = h .own; mode = h .mode; turn = h .turn; wait = cell + 1 };
+      kind = d .kind;
+      day = d .day;
+      pkind = d .pkind;
+      pday = d .pday;
+    }
+
+-- "Otherwise it answers the cell."
+unfoldable pub readOf : Desk → ℕ → Done
+readOf d cell =
+    call (readRules d cell) d []
+    (cond (mustWait d cell) waits (holds (contentAt (d .kind) (d .day) cell)))
+    (cond (mustWait d cell) (waitingDesk d cell) d)
+    []
+
+-- ---- Send
+
+-- 5, 9 "turn not this desk's", 10 "turn number is 4,294,967,295", 11 "buffer shorter than the sheet"
+abbrev pub sendRules : Desk → List ℕ → List Rule
+sendRules d buf =
+    5 if not (sound d)
+    ∷ 9 if not (ownTurn (d .head))
+    ∷ 10 if eqb (d .head .turn) lastTurn
+    ∷ 11 if ltb (length buf) (length (sheetOf (d .head) (d .pkind) (d .pday)))
+    ∷ []
+
+-- the head with the next turn number and this waiting read
+abbrev pub nextHead : Head → ℕ → Head
+nextHead h wait = record { n = h .n; m = h .m; own = h .own; mode = h .mode; turn = h .turn + 1; wait = wait }
+
+-- "empties the pending set, adds 1 to the turn number"
+abbrev pub sentDesk : Desk → Desk
+sentDesk d =
+    record {
+      head = nextHead (d .head) (d .head .wait);
+      kind = d .kind;
+      day = d .day;
+      pkind = replicate 64 0;
+      pday = replicate 64 (pos 0);
+    }
+
+-- "Writes one sheet with every pending entry .. Bytes of the lent buffer past the sheet stay."
+unfoldable pub sendOf : Desk → List ℕ → Done
+sendOf d buf =
+    let sheet = sheetOf (d .head) (d .pkind) (d .pday) in
+    call (sendRules d buf) d buf
+    (sent (d .head .turn) (length (pendingEntries (d .pkind) (d .pday))))
+    (sentDesk d)
+    (sheet ++ drop (length sheet) buf)
+
+-- ---- Deliver
+
+-- 12: "tray length not 398 × n"
+abbrev pub trayFits : Desk → List ℕ → Bool
+trayFits d tray = eqb (length tray) (398 * d .head .n)
+
+-- 5, 12, 13 "sheet not good", 14 "sheet's desks or cells differ from the record's", 15 "sheet's sender is this desk", 16 "sheet's number below
+-- the desk's turn number", 17 "sheet's number at or above turn number + n", 18 "sender's place not free"
+abbrev pub deliverRules : Desk → List ℕ → List ℕ → List Rule
+deliverRules d tray s =
+    let h = d .head in
+    let x = numbersOf (trailerIn s) in
+    5 if not (sound d)
+    ∷ 12 if not (trayFits d tray)
+    ∷ 13 if not (good s)
+    ∷ 14 if not (eqb (x .desks) (h .n) && eqb (x .cells) (h .m))
+    ∷ 15 if eqb (x .sender) (h .own)
+    ∷ 16 if ltb (x .turn) (h .turn)
+    ∷ 17 if leb (h .turn + h .n) (x .turn)
+    ∷ 18 if not (free tray (x .sender))
+    ∷ []
+
+-- "Puts a sheet in the sender's place in the lent tray. The record stays."
+unfoldable pub deliverOf : Desk → List ℕ → List ℕ → Done
+deliverOf d tray s = call (deliverRules d tray s) d tray held d (heldIn tray (trailerIn s .sender) s)
+
+-- ---- Take
+
+-- "a good sheet of this shelf with that sender and turn number"
+abbrev pub isNext : Head → Numbers → Bool
+isNext h x = (eqb (x .desks) (h .n) && eqb (x .cells) (h .m)) && (eqb (x .sender) (turnDesk h) && eqb (x .turn) (h .turn))
+
+-- 5, 12, 19 "take on the desk's own turn", 10, 20 "first two bytes of the turn desk's place are zero", 21 "place does not hold a good sheet of
+-- this shelf with that sender and turn number, followed by zeros"
+abbrev pub takeRules : Desk → List ℕ → List Rule
+takeRules d tray =
+    let h = d .head in
+    let q = turnDesk h in
+    5 if not (sound d)
+    ∷ 12 if not (trayFits d tray)
+    ∷ 19 if ownTurn h
+    ∷ 10 if eqb (h .turn) lastTurn
+    ∷ 20 if free tray q
+    ∷ 21 if not (holdsGood tray q && isNext h (numbersOf (trailerIn (sheetAt tray q))))
+    ∷ []
+
+-- "Takes the sheet of the desk whose turn it is": the entries of the sheet in that desk's place
+abbrev pub entriesTaken : Desk → List ℕ → List Entry
+entriesTaken d tray = let s = sheetAt tray (turnDesk (d .head)) in entriesOf (trailerIn s .entries) s
+
+-- "If the turn is now the desk's own and a read waits": the read is over
+abbrev pub readEnds : Head → Bool
+readEnds h = readWaits h && ownTurn (nextHead h 0)
+
+-- the record after these entries: "Pending entries never change", "the turn number goes up by 1"
+abbrev pub takenDesk : Desk → List Entry → Desk
+takenDesk d es =
+    let h = d .head in
+    let going = goes (causal h) (d .pkind) in
+    record {
+      head = nextHead h (cond (readEnds h) 0 (h .wait));
+      kind = laid going kindOn (d .kind) es;
+      day = laid going dayOn (d .day) es;
+      pkind = d .pkind;
+      pday = d .pday;
+    }
+
+-- "the answer carries that cell's content", as the shelf has it after the entries
+abbrev pub waitedFor : Head → Desk → Option Content
+waitedFor h after = cond (readEnds h) (some (contentAt (after .kind) (after .day) (waitCell h))) none
+
+-- "The place becomes zeros"
+unfoldable pub takeOf : Desk → List ℕ → Done
+takeOf d tray =
+    let h = d .head in
+    let es = entriesTaken d tray in
+    let after = takenDesk d es in
+    call (takeRules d tray) d tray
+    (taken (h .turn) (length es) (wentOf (goes (causal h) (d .pkind)) es) (waitedFor h after))
+    after
+    (clearedIn tray (turnDesk h))

@@ -1,0 +1,4 @@
+pub mod Answers
+pub mod Calls
+pub mod Values
+pub mod Parts
