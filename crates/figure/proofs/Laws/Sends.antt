@@ -1,0 +1,203 @@
+-- A send that is carried out is Figure 1's send_updates(): the sheet in the buffer carries updates_p, and no read is blocked.
+--   pending-carried          the pending entries, as a set, are updates_p
+-- Assumes nothing.
+use Prim.Native.Nat.{ℕ, zero, suc, _+_, _%_, _<_, _≤_}
+use mathlib.Core.Path.{_≡_, refl, sym, ap, _∙_, fun-ext, subst, subst₂}
+use mathlib.Core.Bool.{Bool, true, false, cond, not, _&&_, false≢true}
+use mathlib.Core.List.{List, [], _∷_, _++_}
+use mathlib.Core.Option.{Option, none, some}
+use native.Mathlib.Omega.{arith}
+use native.Mathlib.Nat.{mod-add-mod}
+use lib.Dec.{eqb, ltb}
+use lib.IntN.{ℤ, pos}
+use lib.ListN.{length, drop, replicate}
+use mir.Syntax.{w32}
+use mir.Val.{SFits}
+use mir.Facts.{toZ-ofZ}
+use borrow.Author.Tests.{eqb-true, eqb-false, eq-eqb, ne-eqb, ltb-true, ltb-false, lt-ltb, le-ltb, not-false, not-true}
+use Rattle.answer.specs.Answer.{Answer, answered}
+use Rattle.answer.specs.Promises.{Silent}
+use Rattle.answer.proofs.Laws.{answered-only-if, changed-if}
+use Rattle.content.specs.declared.Content.{Content}
+use Rattle.content.specs.Content.{contentOf}
+use Rattle.layout.specs.declared.Entry.{Entry}
+use Rattle.layout.specs.declared.Numbers.{Numbers}
+use Rattle.layout.specs.Layout.{contentIn, entriesOf, trailerIn, numbersOf}
+use Rattle.sheet.specs.Good.{good}
+use Rattle.sheet.specs.Reading.{Sheet, sheetIn}
+use Rattle.sheet.proofs.Laws.Reading.{good-read}
+use Rattle.cells.specs.Cells.{kindAt, dayAt, contentAt, filled}
+use Rattle.cells.proofs.Laws.{no-place}
+use Rattle.sound.specs.Head.{turnDesk, ownTurn, readWaits, waitCell}
+use Rattle.sound.specs.Sound.{dayFits, sameDay}
+use Rattle.sound.proofs.Laws.Sound.{Sound, sound-says}
+use Rattle.sound.proofs.Laws.Days.{same-day}
+use Rattle.pending.specs.Pending.{entryIn, pendingBelow, pendingEntries, numbersFor, sheetOf}
+use Rattle.pending.proofs.Laws.Good.{FairPlaces, FairHead, sheet-is-good, sheet-reads-back}
+use Rattle.desk.specs.declared.Desk.{Desk}
+use Rattle.desk.specs.Answers.{sent}
+use Rattle.desk.specs.Calls.{lastTurn, sendRules, nextHead, sentDesk, sendOf}
+use Rattle.desk.specs.Values.{DeskFits}
+use Rattle.figure.specs.Figure1.{Updates, ∅, include, broadcasts, send}
+use Rattle.figure.specs.Map.{processOf, updatesOf, updatesIn, carried}
+use Rattle.figure.specs.Promises.{StepOf, SendStep, SendIsAStep}
+use Rattle.figure.proofs.Laws.Carried.{sent-same}
+use Rattle.figure.proofs.Laws.Maps.{same-process}
+use Rattle.figure.proofs.Laws.Opens.{alike}
+
+-- ---- the pending entries as a set
+
+-- the first, or else the second
+or-else : {A : Type 0} → Option A → Option A → Option A
+or-else (some a) o = some a
+or-else none o = o
+
+appended : (es fs : List Entry) (x : ℕ) → updatesIn (es ++ fs) x ≡ or-else (updatesIn es x) (updatesIn fs x)
+unfolding or-else
+appended [] fs x = refl
+appended (e ∷ es) fs x = by-test (appended es fs x) (eqb x (e .cell)) refl
+  where
+    by-test : updatesIn (es ++ fs) x ≡ or-else (updatesIn es x) (updatesIn fs x) → (t : Bool) → eqb x (e .cell) ≡ t
+        → updatesIn ((e ∷ es) ++ fs) x ≡ or-else (updatesIn (e ∷ es) x) (updatesIn fs x)
+    by-test rest true p = rw p
+    by-test rest false p = rw p rest
+
+module _ (pkind : List ℕ) (pday : List ℤ) (fits : (i : ℕ) → SFits w32 (dayAt pday i)) where
+  content-carried : (i : ℕ) → contentIn (entryIn pkind pday i) ≡ contentAt pkind pday i
+  content-carried i = ap (contentOf (kindAt pkind i)) (toZ-ofZ (fits i))
+
+  -- one entry, where its place is filled
+  one-entry : (i x : ℕ) → updatesIn (cond (filled pkind i) (entryIn pkind pday i ∷ []) []) x ≡ cond (eqb x i) (updatesOf pkind pday i) none
+  one-entry i x = by-tests (filled pkind i) (eqb x i) refl refl
+    where
+      by-tests : (f t : Bool) → filled pkind i ≡ f → eqb x i ≡ t
+          → updatesIn (cond (filled pkind i) (entryIn pkind pday i ∷ []) []) x ≡ cond (eqb x i) (updatesOf pkind pday i) none
+      by-tests true true p q = rw (p, q, content-carried i)
+      by-tests true false p q = rw (p, q)
+      by-tests false true p q = rw (p, q)
+      by-tests false false p q = rw (p, q)
+
+  or-none : (o : Option Content) → or-else o none ≡ o
+  unfolding or-else
+  or-none (some a) = refl
+  or-none none = refl
+
+  below-carried : (n x : ℕ) → updatesIn (pendingBelow pkind pday n) x ≡ cond (ltb x n) (updatesOf pkind pday x) none
+  unfolding pendingBelow or-else
+  below-carried zero x = rw (le-ltb x 0 (omega arith))
+  below-carried (suc n) x =
+      appended (pendingBelow pkind pday n) (cond (filled pkind n) (entryIn pkind pday n ∷ []) []) x
+      ∙ rw (below-carried n x, one-entry n x) (by-tests (ltb x n) (eqb x n) refl refl)
+    where
+      by-tests : (l t : Bool) → ltb x n ≡ l → eqb x n ≡ t
+          → or-else (cond (ltb x n) (updatesOf pkind pday x) none) (cond (eqb x n) (updatesOf pkind pday n) none) ≡ cond (ltb x (suc n)) (updatesOf pkind pday x) none
+      by-tests true true p q = let low : x < n = ltb-true x n p in let same : x ≡ n = eqb-true x n q in absurd (omega (arith, low, same))
+      by-tests true false p q =
+          let low : x < n = ltb-true x n p in
+          rw (p, q, lt-ltb x (suc n) (omega arith)) (or-none (updatesOf pkind pday x))
+      by-tests false true p q =
+          let same : x ≡ n = eqb-true x n q in
+          rw (p, q, lt-ltb x (suc n) (omega arith)) (ap (updatesOf pkind pday) (sym same))
+      by-tests false false p q =
+          let high : n ≤ x = ltb-false x n p in
+          let other = eqb-false x n q in
+          rw (p, q, le-ltb x (suc n) (omega arith))
+
+  pub pending-carried : updatesIn (pendingEntries pkind pday) ≡ updatesOf pkind pday
+  pending-carried = fun-ext (λ x. below-carried 64 x ∙ by-test x (ltb x 64) refl)
+    where
+      by-test : (x : ℕ) (t : Bool) → ltb x 64 ≡ t → cond (ltb x 64) (updatesOf pkind pday x) none ≡ updatesOf pkind pday x
+      by-test x true p = rw p
+      by-test x false p = rw (p, ← no-place 0 pkind x (ltb-false x 64 p))
+
+-- ---- a sound record whose turn it is
+
+module _ (d : Desk) (fits : DeskFits d) (s : Sound (d .head) (d .kind) (d .day) (d .pkind) (d .pday)) (own : ownTurn (d .head) ≡ true) (more : eqb (d .head .turn) lastTurn ≡ false) where
+  at-own : turnDesk (d .head) ≡ d .head .own
+  at-own = eqb-true _ _ own
+
+  -- "a waiting read has .. the turn elsewhere": none waits
+  none-waits : readWaits (d .head) ≡ false
+  none-waits = by-test (eqb (d .head .wait) 0) refl
+    where
+      by-test : (t : Bool) → eqb (d .head .wait) 0 ≡ t → not (eqb (d .head .wait) 0) ≡ false
+      by-test true p = rw p
+      by-test false p = absurd (s .waits (eqb-false _ _ p) .elsewhere at-own)
+
+  fair-head : FairHead (d .head)
+  fair-head =
+      record {
+        desks-least = s .desks-least;
+        desks-most = s .desks-most;
+        cells-least = s .cells-least;
+        cells-most = s .cells-most;
+        own-below = s .own-below;
+        turn-most = let other : d .head .turn ≡ 4294967295 → ⊥ = eqb-false (d .head .turn) lastTurn more in omega (arith, fits .turn, other);
+        turn-is-own = at-own;
+      }
+
+  open-day : (kind : ℕ) (day : ℤ) → dayFits kind day ≡ true → kind ≡ 1 → day ≡ pos 0
+  open-day kind day e one = same-day day (pos 0) (rw one at e)
+
+  fair-places : FairPlaces (d .pkind) (d .pday) (d .head .m)
+  fair-places =
+      record {
+        kinds = s .pkind-is;
+        opens = λ i h one. open-day (kindAt (d .pkind) i) (dayAt (d .pday) i) (s .pday-fits i h) one;
+        blanks = λ i h past. s .blank-past i h past .1;
+      }
+
+  sheet : List ℕ
+  sheet = sheetOf (d .head) (d .pkind) (d .pday)
+
+  same-answered : (a b : Sheet) → answered a ≡ answered b → a ≡ b
+  same-answered a b e = cc
+
+  read-as : sheetIn sheet (numbersOf (trailerIn sheet)) ≡ record { numbers = numbersFor (d .head) (length (pendingEntries (d .pkind) (d .pday))); entries = pendingEntries (d .pkind) (d .pday) }
+  unfolding sheet
+  read-as =
+      same-answered _ _ (sym (good-read sheet (sheet-is-good (d .head) (d .pkind) (d .pday) fair-head fair-places (λ i h. fits .pday i)))
+      ∙ sheet-reads-back (d .head) (d .pkind) (d .pday) fair-head fair-places (λ i h. fits .pday i))
+
+  pub sheet-carries : carried (sheetOf (d .head) (d .pkind) (d .pday)) ≡ updatesOf (d .pkind) (d .pday)
+  unfolding sheet
+  sheet-carries = ap (λ (x : Sheet). updatesIn (x .entries)) read-as ∙ pending-carried (d .pkind) (d .pday) (fits .pday)
+
+  pub sheet-numbers : numbersOf (trailerIn (sheetOf (d .head) (d .pkind) (d .pday))) ≡ numbersFor (d .head) (length (pendingEntries (d .pkind) (d .pday)))
+  unfolding sheet
+  sheet-numbers = ap (λ (x : Sheet). x .numbers) read-as
+
+  pub sheet-sound : good (sheetOf (d .head) (d .pkind) (d .pday)) ≡ true
+  sheet-sound = sheet-is-good (d .head) (d .pkind) (d .pday) fair-head fair-places (λ i h. fits .pday i)
+
+  quiet : processOf d .blocked ≡ none
+  quiet = rw none-waits
+
+  pub sent-step : StepOf d (processOf d) (broadcasts (processOf d .updates)) (processOf (sentDesk d))
+  sent-step =
+      subst (StepOf d (processOf d) (broadcasts (processOf d .updates)))
+      (same-process refl (sym (fun-ext (λ x. rw (alike {A = ℕ} 0 x)))) (mod-add-mod (d .head .turn) (d .head .n) 1) (sym quiet))
+      (send (processOf d) at-own quiet)
+
+pub send-is-a-step : SendIsAStep
+unfolding sendOf
+send-is-a-step d buf turn entries fits e =
+    let rules = sendRules d buf in
+    let bytes : List ℕ = sheetOf (d .head) (d .pkind) (d .pday) in
+    let count = length (pendingEntries (d .pkind) (d .pday)) in
+    let carried-out = answered-only-if rules (sent (d .head .turn) count) (sent turn entries) e in
+    let silent : Silent rules = carried-out .0 in
+    let same = sent-same (d .head .turn) count turn entries (carried-out .1) in
+    let s = sound-says {h = d .head} {kind = d .kind} {day = d .day} {pkind = d .pkind} {pday = d .pday} (not-false _ (silent .0)) in
+    let own = not-false _ (silent .1 .0) in
+    let more = silent .1 .1 .0 in
+    record {
+      step = subst (λ (x : Desk). StepOf d (processOf d) (broadcasts (processOf d .updates)) (processOf x)) (sym (changed-if rules d (sentDesk d) silent)) (sent-step d fits s own more);
+      sheet = bytes;
+      buffer = changed-if rules buf (bytes ++ drop (length bytes) buf) silent;
+      is-good = sheet-sound d fits s own more;
+      numbers =
+          sheet-numbers d fits s own more
+          ∙ (λ i. record { entries = same .1 i; sender = d .head .own; desks = d .head .n; cells = d .head .m; turn = same .0 i });
+      carries = sheet-carries d fits s own more;
+    }
