@@ -1,3 +1,4 @@
+pub mod Answers
 pub mod Next
 pub mod Steps
 pub mod Writes

@@ -1,4 +1,5 @@
 pub mod Answers
 pub mod Calls
+pub mod Promises
 pub mod Values
 pub mod Parts

@@ -67,8 +67,7 @@ impl Desk {
     pub fn sound(self) -> bool
         ensures { λ r. ⌜ r ≡ calls.sound self ⌝ }
     {
-        let h = self.head;
-        sound::is_sound(h, &self.kind, &self.day, &self.pkind, &self.pday)
+        sound::is_sound(self.head, &self.kind, &self.day, &self.pkind, &self.pday)
     }
 
     // "All cells blank, nothing pending, turn number 0. Mode 0 means the default: causal. A refused

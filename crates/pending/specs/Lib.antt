@@ -1,2 +1,3 @@
 pub mod Pending
 pub mod Parts
+pub mod Promises

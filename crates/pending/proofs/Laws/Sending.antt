@@ -2,7 +2,7 @@
 --   sheet-long, sheet-most                how long a desk's sheet is: 396 bytes at most
 --   too-short, sent-whole                 what a call answers and leaves, by the room alone
 --   sendings                              a set for `search`: what `write_sheet` knows at each of its returns, and what it then leaves and answers
---   saidSent-tells-apart                  two different answers never say the same
+--   saidSent-tells-apart : SendingsApart (specs/Promises.antt)
 -- Assumes nothing.
 use mathlib.Core.Path.{_≡_, refl, sym, ap, _∙_}
 use mathlib.Core.List.{List, _++_}
@@ -24,6 +24,7 @@ use Rattle.layout.proofs.Laws.{entries-length, sheet-length}
 use Rattle.pending.specs.declared.Sent.{Sent}
 use Rattle.pending.specs.declared.Sent.the-variants as sent
 use Rattle.pending.specs.Pending.{pendingEntries, numbersFor, sheetOf, entriesSent, bufferWith, saidSent, Sends}
+use Rattle.pending.specs.Promises.{SendingsApart}
 use Rattle.pending.proofs.Laws.Entries.{pending-length, pending-most}
 
 module _ (h : Head) (pkind : List ℕ) (pday : List ℤ) where
@@ -90,5 +91,5 @@ found : (a : Sent) → again sent.Refused sent.Entries (saidSent a) ≡ a
 found (sent.Entries n) = refl
 found (sent.Refused k) = refl
 
-pub saidSent-tells-apart : (a b : Sent) → saidSent a ≡ saidSent b → a ≡ b
+pub saidSent-tells-apart : SendingsApart
 saidSent-tells-apart a b = apart saidSent (again sent.Refused sent.Entries) found

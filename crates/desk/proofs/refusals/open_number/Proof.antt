@@ -19,7 +19,7 @@ first-requires-4 c κs = search needs
 
 returns : tie.Need-returns
 unfolding openNumber
-returns c = cc
+returns c = rw (c .first4 .ensures, c .before .first3 .ensures, c .before .before .first2 .ensures, c .before .before .before .first .ensures)
 
 pub open-number-spec : {M : Type 1} → statement M
 open-number-spec =

@@ -19,7 +19,7 @@ first-requires-3 c κs = search needs
 
 returns : tie.Need-returns
 unfolding readNumber
-returns c = cc
+returns c = rw (c .first3 .ensures, c .before .first2 .ensures, c .before .before .before .first .ensures)
 
 pub read-number-spec : {M : Type 1} → statement M
 read-number-spec =

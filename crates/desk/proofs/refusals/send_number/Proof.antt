@@ -19,7 +19,7 @@ first-requires-3 c κs = search needs
 
 returns : tie.Need-returns
 unfolding sendNumber
-returns c = cc
+returns c = rw (c .first3 .ensures, c .before .first2 .ensures, c .before .before .first .ensures, c .before .before .before .before .own-turn .ensures)
 
 pub send-number-spec : {M : Type 1} → statement M
 send-number-spec =

@@ -28,7 +28,7 @@ first-requires-4 c κs = search needs
 
 returns : tie.Need-returns
 unfolding takeNumber
-returns c = cc
+returns c = rw (c .first4 .ensures, c .before .first3 .ensures, c .before .before .before .first2 .ensures, c .before .before .before .before .first .ensures, c .before .before .before .before .before .before .own-turn .ensures)
 
 pub take-number-spec : {M : Type 1} → statement M
 take-number-spec =

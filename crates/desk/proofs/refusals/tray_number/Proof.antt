@@ -19,7 +19,7 @@ first-requires-2 c κs = search needs
 
 returns : tie.Need-returns
 unfolding trayNumber
-returns c = cc
+returns c = rw (c .first2 .ensures, c .before .first .ensures)
 
 pub tray-number-spec : {M : Type 1} → statement M
 tray-number-spec =

@@ -22,7 +22,7 @@ first-requires-4 c κs = search needs
 
 returns : tie.Need-returns
 unfolding writeNumber
-returns c = cc
+returns c = rw (c .first4 .ensures, c .before .first3 .ensures, c .before .before .before .first2 .ensures, c .before .before .before .before .first .ensures)
 
 pub write-number-spec : {M : Type 1} → statement M
 write-number-spec =

@@ -11,7 +11,7 @@ cast-result : tie.Need-cast-result
 cast-result c = search needs
 
 returns : tie.Need-returns
-returns c = cc
+returns c = rw (c .before .before .before .before .before .before .before .turn-desk .ensures)
 
 pub is-next-spec : {M : Type 1} → statement M
 is-next-spec = tie.close (tie.spec turn-desk-requires cast-result returns)

@@ -11,7 +11,7 @@ own-turn-requires : tie.Need-own-turn-requires
 own-turn-requires c κs = search needs
 
 returns : tie.Need-returns
-returns c = cc
+returns c = rw (c .before .own-turn .ensures, c .before .before .next-head .ensures)
 
 pub read-ends-spec : {M : Type 1} → statement M
 read-ends-spec = tie.close (tie.spec next-head-requires own-turn-requires returns)
