@@ -1,0 +1,9 @@
+pub mod Rules
+pub mod Places
+pub mod Open
+pub mod Write
+pub mod Read
+pub mod Send
+pub mod Deliver
+pub mod Take
+pub mod Numbers

@@ -1,0 +1,66 @@
+-- A read keeps a record sound: it changes nothing but the waiting read, and one that begins to wait is as `mustWait` says. It keeps a record
+-- that fits, too.
+--   wait-says                      what `mustWait` says, as the clauses on a waiting read
+--   read-sound, read-fits
+-- Assumes nothing.
+use Prim.Native.Nat.{ℕ, _+_, _-_, _<_}
+use mathlib.Core.Path.{_≡_, refl}
+use mathlib.Core.Bool.{Bool, true, false, cond, not}
+use native.Mathlib.Omega.{arith}
+use borrow.Author.Tests.{eqb-true, eqb-false, leb-false, not-true}
+use Rattle.sheet.proofs.Laws.Bools.{and-split}
+use Rattle.cells.specs.Cells.{blank, filled, some}
+use Rattle.sound.specs.Head.{sequential, ownTurn, turnDesk}
+use Rattle.sound.proofs.Laws.Sound.{Waiting, sound-says}
+use Rattle.desk.specs.declared.Desk.{Desk}
+use Rattle.desk.specs.Calls.{sound, readRules, mustWait, waitingDesk, readOf}
+use Rattle.desk.specs.Values.{DeskFits}
+use Rattle.keeping.specs.Promises.{KeptSound, KeptFits}
+use Rattle.keeping.proofs.Laws.Rules.{kept}
+use Rattle.keeping.proofs.Laws.Places.{numbers-are, place-is, sound-by-places}
+
+module _ (d : Desk) (cell : ℕ) where
+  pub wait-says : mustWait d cell ≡ true → cell < d .head .m → Waiting (waitingDesk d cell .head) (d .pkind)
+  unfolding mustWait
+  wait-says e low =
+      let last = and-split _ (not (ownTurn (d .head))) e in
+      let third = and-split _ (blank (d .pkind) cell) (last .0) in
+      let first = and-split (sequential (d .head)) (some 64 (filled (d .pkind))) (third .0) in
+      let back : cell + 1 - 1 ≡ cell = omega arith in
+      record {
+        mode-is = eqb-true _ _ (first .0);
+        cell-below = omega arith;
+        cell-blank = rw back (eqb-true _ _ (third .1));
+        something = first .1;
+        elsewhere = eqb-false (turnDesk (d .head)) (d .head .own) (not-true _ (last .1));
+      }
+
+  -- the record after a read that was carried out, whether it waits or not
+  pub read-sound : KeptSound d (readOf d cell)
+  unfolding readOf
+  read-sound fits e =
+      kept (λ (x : Desk). sound x ≡ true) (readRules d cell) d (cond (mustWait d cell) (waitingDesk d cell) d) e
+      (λ silent. by-test (leb-false (d .head .m) cell (silent .1 .0)) (mustWait d cell) refl)
+    where
+      by-test : cell < d .head .m → (t : Bool) → mustWait d cell ≡ t → sound (cond t (waitingDesk d cell) d) ≡ true
+      by-test low true must =
+          let s = sound-says {h = d .head} {kind = d .kind} {day = d .day} {pkind = d .pkind} {pday = d .pday} e in
+          sound-by-places (waitingDesk d cell .head) (d .kind) (d .day) (d .pkind) (d .pday) (numbers-are s) (place-is s) (λ w. wait-says must low)
+      by-test low false must = e
+
+  pub read-fits : KeptFits d (readOf d cell)
+  unfolding readOf
+  read-fits fits = kept DeskFits (readRules d cell) d (cond (mustWait d cell) (waitingDesk d cell) d) fits (λ silent. by-test (mustWait d cell))
+    where
+      by-test : (t : Bool) → DeskFits (cond t (waitingDesk d cell) d)
+      by-test true =
+          record {
+            kinds = fits .kinds;
+            days = fits .days;
+            pkinds = fits .pkinds;
+            pdays = fits .pdays;
+            day = fits .day;
+            pday = fits .pday;
+            turn = fits .turn;
+          }
+      by-test false = fits
