@@ -18,7 +18,7 @@ use mir.Syntax.{w8}
 use mir.Val.{Fits}
 use lib.ListN.{length, getD, set, length-set}
 use lib.Seq.{getD-set-same, getD-set-other}
-use borrow.Author.Tests.{lt-ltb, le-ltb, ltb-true, eqb-true, eqb-false}
+use borrow.Author.Tests.{lt-ltb, le-ltb, eqb-true, eqb-false}
 use Rattle.content.specs.declared.Content.{Content}
 use Rattle.content.specs.Content.{contentOf}
 use Rattle.cells.specs.Cells.{placeAt, kindAt, dayAt, contentAt, filled, putIf, each, some, count}

@@ -25,7 +25,7 @@ use Rattle.tray.specs.Tray.{free, sheetAt, holdsGood, heldIn, clearedIn}
 use Rattle.pending.specs.Pending.{pendingEntries, sheetOf}
 use Rattle.applying.specs.Applying.{goes, laid, kindOn, dayOn, wentOf}
 use Rattle.desk.specs.declared.Desk.{Desk}
-use Rattle.desk.specs.Answers.{Value, opened, stored, holds, waits, sent, held, taken, Done, call}
+use Rattle.desk.specs.Answers.{opened, stored, holds, waits, sent, held, taken, Done, call}
 
 -- "A record is sound if .." (crates/sound/specs/Sound.antt)
 abbrev pub sound : Desk → Bool

@@ -9,9 +9,8 @@ use mathlib.Core.Logic.{_≢_}
 use mathlib.Core.Option.{Option, none, some}
 use Prim.Native.Nat.{ℕ}
 use lib.ListN.{length, drop}
-use Rattle.answer.specs.Answer.{Answer, refused, answered}
+use Rattle.answer.specs.Answer.{refused, answered}
 use Rattle.content.specs.declared.Content.{Content}
-use Rattle.layout.specs.declared.Numbers.{Numbers}
 use Rattle.layout.specs.Layout.{trailerIn, numbersOf}
 use Rattle.sheet.specs.Good.{good}
 use Rattle.sound.specs.Head.{turnDesk}

@@ -1,17 +1,16 @@
 -- Send and deliver as the code makes them: one law for each return.
 --   sendings, deliveries        sets for `search`
 -- Assumes nothing.
-use Prim.Native.Nat.{ℕ, _+_, _*_, _<_, _≤_}
+use Prim.Native.Nat.{ℕ, _+_}
 use mathlib.Core.Path.{_≡_, refl, sym, ap, _∙_}
-use mathlib.Core.Bool.{Bool, true, false, cond, not, _&&_}
+use mathlib.Core.Bool.{Bool, true, false, not, _&&_}
 use mathlib.Core.List.{List, [], _∷_, _++_}
 use native.Mathlib.Omega.{arith}
 use lib.Dec.{eqb, leb, ltb}
-use lib.IntN.{ℤ, pos}
+use lib.IntN.{pos}
 use lib.ListN.{length, drop, replicate}
 use borrow.Author.Tests.{eqb-true, eqb-false}
-use Rattle.answer.specs.Answer.{Answer, Rule, refused, answered, _if_, answer, leaves}
-use Rattle.answer.specs.Promises.{Silent, First}
+use Rattle.answer.specs.Answer.{Answer, Rule, refused, _if_, answer}
 use Rattle.answer.specs.Parts.{numberOf, Numbered}
 use Rattle.answer.proofs.Laws.{silent-if-0, refused-only-if, answered-only-if, changed-if, unchanged-if, number-of-first, number-of-silent, first-is-some, first-of-both, second-of-both}
 use Rattle.layout.specs.declared.Numbers.{Numbers}
@@ -29,10 +28,9 @@ use Rattle.pending.specs.declared.Sent.{Sent}
 use Rattle.pending.specs.declared.Sent.the-variants as sends
 use Rattle.pending.specs.Pending.{pendingEntries, sheetOf, roomRules, entriesSent, bufferWith, saidSent, Sends}
 use Rattle.desk.specs.declared.Desk.{Desk}
-use Rattle.desk.specs.declared.Outcome.{Outcome}
 use Rattle.desk.specs.declared.Answer as declared
 use Rattle.desk.specs.declared.Answer.the-variants as answers
-use Rattle.desk.specs.Answers.{Value, Done, sent, held, outcome, call}
+use Rattle.desk.specs.Answers.{Value, sent, held, outcome}
 use Rattle.desk.specs.Calls.{lastTurn, sound, trayFits, sendRules, nextHead, sentDesk, sendOf, deliverRules, deliverOf}
 use Rattle.desk.specs.Parts.{sendNumber, trayNumber, sheetNumber, given, heldIf}
 use Rattle.desk.proofs.Laws.Writes.{call-carried-out, call-refused}

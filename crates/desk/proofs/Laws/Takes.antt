@@ -3,18 +3,18 @@
 --   take-turn, take-desk, take-room             what is asked on the way
 --   taken-entries       the entries as the code reads them are those of the sheet in the place
 -- Assumes nothing.
-use Prim.Native.Nat.{ℕ, _+_, _*_, _-_, _%_, _<_, _≤_}
+use Prim.Native.Nat.{ℕ, _+_, _*_, _-_, _<_, _≤_}
 use mathlib.Core.Path.{_≡_, refl, sym, ap, _∙_}
 use mathlib.Core.Bool.{Bool, true, false, cond, not, _&&_}
-use mathlib.Core.List.{List, [], _∷_, _++_}
-use mathlib.Core.Option.{Option, none, some}
+use mathlib.Core.List.{List, [], _∷_}
+use mathlib.Core.Option.{none, some}
 use native.Mathlib.Omega.{arith}
 use native.Mathlib.Nat.{mod-lt}
-use lib.Dec.{eqb, leb}
+use lib.Dec.{eqb}
 use lib.IntN.{ℤ}
-use lib.ListN.{length, getD, take, drop, length-take, length-drop}
+use lib.ListN.{length, take, drop, length-drop}
 use lib.Seq.{ext-getD, getD-take, getD-drop, length-take-le}
-use borrow.Author.Tests.{eqb-true, eqb-false, le-leb, not-false, not-true}
+use borrow.Author.Tests.{eqb-true, eqb-false, le-leb, not-false}
 use mir.Syntax.{w8}
 use mir.Val.{Fits}
 use Rattle.answer.specs.Answer.{Answer, Rule, answered, _if_}
@@ -23,11 +23,9 @@ use Rattle.answer.specs.Parts.{numberOf, Numbered}
 use Rattle.answer.proofs.Laws.{silent-if-0, first-of-both, second-of-both}
 use Rattle.content.specs.declared.Content.{Content}
 use Rattle.numbers.specs.Numbers.{at1}
-use Rattle.layout.specs.declared.Entry.{Entry}
 use Rattle.layout.specs.Layout.{entryOf, entriesOf, trailerIn, numbersOf}
 use Rattle.layout.proofs.Laws.{entries-count, entry-of-entries}
 use Rattle.sheet.specs.Reading.{noEntry}
-use Rattle.sheet.specs.Good.{good}
 use Rattle.sheet.proofs.Laws.Bools.{and-split}
 use Rattle.sheet.proofs.Laws.Good.{good-length}
 use Rattle.cells.specs.Cells.{contentAt}
@@ -38,7 +36,6 @@ use Rattle.tray.specs.Tray.{start, lengthAt, free, sheetAt, holdsGood, placeOf,
 use Rattle.tray.proofs.Laws.Places.{place-there, holds-says}
 use Rattle.applying.specs.Applying.{goes, wentOf, entriesIn, Applies}
 use Rattle.desk.specs.declared.Desk.{Desk}
-use Rattle.desk.specs.declared.Outcome.{Outcome}
 use Rattle.desk.specs.declared.Answer as declared
 use Rattle.desk.specs.declared.Answer.the-variants as answers
 use Rattle.desk.specs.declared.steps.Looked.{Looked}

@@ -3,20 +3,18 @@
 --   makings             a set for `search`
 -- Assumes nothing.
 use Prim.Native.Nat.{ℕ, _<_, _≤_, _^_}
-use mathlib.Core.Path.{_≡_, refl, sym, ap, _∙_}
-use mathlib.Core.Bool.{Bool, true, false, cond, not, _&&_}
-use mathlib.Core.List.{List, [], _∷_}
+use mathlib.Core.Path.{_≡_, refl, sym, _∙_}
+use mathlib.Core.Bool.{Bool, true, false, cond, _&&_}
+use mathlib.Core.List.{List, []}
 use native.Mathlib.Omega.{arith}
-use lib.Dec.{eqb, leb, ltb}
-use lib.IntN.{ℤ, pos}
-use lib.ListN.{replicate}
+use lib.Dec.{eqb, leb}
+use lib.IntN.{ℤ}
 use lib.Signed.{mag}
 use mir.Syntax.{w32}
 use mir.Val.{toZ, ofZ}
 use mir.Facts.{toZ-ofZ}
 use borrow.Author.Tests.{eqb-true, eqb-false, lt-ltb, leb-false, leb-true, ltb-false, not-false}
-use Rattle.answer.specs.Answer.{Answer, Rule, refused, answered, _if_, answer, leaves}
-use Rattle.answer.specs.Promises.{Silent, First}
+use Rattle.answer.specs.Answer.{Answer, Rule, refused, answered, answer}
 use Rattle.answer.specs.Parts.{numberOf, Numbered}
 use Rattle.answer.proofs.Laws.{silent-if-0, first-if-number, answered-if, changed-if, refused-if, unchanged-if}
 use Rattle.content.specs.declared.Content.{Content}
@@ -30,7 +28,7 @@ use Rattle.desk.specs.declared.Desk.{Desk}
 use Rattle.desk.specs.declared.Outcome.{Outcome}
 use Rattle.desk.specs.declared.Answer as declared
 use Rattle.desk.specs.declared.Answer.the-variants as answers
-use Rattle.desk.specs.Answers.{Value, Done, opened, stored, holds, waits, said, outcome, call}
+use Rattle.desk.specs.Answers.{Value, Done, opened, stored, holds, waits, outcome, call}
 use Rattle.desk.specs.Calls.{sound, openRules, blankDesk, freshHead, modeFor, openOf, writeRules, writtenDesk, writeOf, readRules, mustWait, waitingDesk, readOf}
 use Rattle.desk.specs.Parts.{openNumber, writeNumber, readNumber, given, openedHead, waitsFor, waitAt, readAnswer}
 use Rattle.desk.proofs.Laws.Steps.{waits-are}

@@ -1,7 +1,7 @@
 -- From an answer to what it says: a call that answered was carried out, so no rule of it applied, and its value is that of the call.
 -- Assumes nothing.
 use Prim.Native.Nat.{ℕ}
-use mathlib.Core.Path.{_≡_, refl, sym, ap, _∙_}
+use mathlib.Core.Path.{_≡_, refl, ap}
 use mathlib.Core.Bool.{Bool, true, false, cond}
 use mathlib.Core.Option.{Option, none}
 use native.Mathlib.Omega.{arith}

@@ -1,15 +1,13 @@
 -- A delivery that is carried out brings a sheet into the receiving buffer, and changes nothing else.
 -- Assumes nothing.
-use Prim.Native.Nat.{ℕ, _*_, _+_, _<_, _≤_}
-use mathlib.Core.Path.{_≡_, refl, sym, ap, _∙_}
-use mathlib.Core.Bool.{true, _&&_}
+use Prim.Native.Nat.{ℕ, _*_, _+_, _≤_}
+use mathlib.Core.Path.{_≡_, ap, _∙_}
+use mathlib.Core.Bool.{true}
 use mathlib.Core.List.{List}
-use mathlib.Core.Option.{some}
 use native.Mathlib.Omega.{arith}
 use lib.Dec.{eqb}
 use lib.ListN.{length}
 use borrow.Author.Tests.{eqb-true, not-false}
-use Rattle.answer.specs.Answer.{answered}
 use Rattle.answer.specs.Promises.{Silent}
 use Rattle.answer.proofs.Laws.{answered-only-if, changed-if}
 use Rattle.layout.specs.Layout.{trailerIn}
@@ -20,7 +18,7 @@ use Rattle.tray.specs.Tray.{start, heldIn}
 use Rattle.tray.proofs.Laws.Places.{place-there, held-found, held-holds, held-others}
 use Rattle.desk.specs.Answers.{held}
 use Rattle.desk.specs.Calls.{deliverRules, deliverOf}
-use Rattle.figure.specs.Map.{carried, received}
+use Rattle.figure.specs.Map.{received}
 use Rattle.figure.specs.Promises.{DeliverIsAnArrival}
 use Rattle.figure.proofs.Laws.Takes.{received-stays}
 

@@ -2,17 +2,17 @@
 --   absent            a cell below all of some rising entries is in none of them
 --   entries-loop      the loop
 -- Assumes nothing.
-use Prim.Native.Nat.{ℕ, suc, _+_, _<_, _≤_}
-use mathlib.Core.Path.{_≡_, refl, sym, ap, _∙_, fun-ext, subst, subst₂}
-use mathlib.Core.Bool.{Bool, true, false, cond, not, _&&_, _||_, false≢true}
+use Prim.Native.Nat.{ℕ, suc, _+_, _<_}
+use mathlib.Core.Path.{_≡_, refl, sym, _∙_, fun-ext, subst, subst₂}
+use mathlib.Core.Bool.{Bool, true, false, cond, _||_, false≢true}
 use mathlib.Core.List.{List, [], _∷_}
 use mathlib.Core.Logic.{inl, inr}
-use mathlib.Core.Option.{Option, none, some, Option·some-ne-none}
+use mathlib.Core.Option.{none, some, Option·some-ne-none}
 use native.Mathlib.Omega.{arith}
-use lib.Dec.{eqb, ltb}
+use lib.Dec.{eqb}
 use lib.IntN.{ℤ}
 use lib.ListN.{length}
-use borrow.Author.Tests.{eqb-true, eqb-false, eq-eqb, ne-eqb, ltb-true, lt-ltb}
+use borrow.Author.Tests.{eqb-true, eq-eqb, ne-eqb, ltb-true, lt-ltb}
 use Rattle.content.specs.declared.Content.{Content}
 use Rattle.layout.specs.declared.Entry.{Entry}
 use Rattle.layout.specs.Layout.{contentIn}
@@ -23,7 +23,7 @@ use Rattle.cells.proofs.Laws.{put-off, place-length}
 use Rattle.sound.specs.Head as head
 use Rattle.applying.specs.Applying.{goes, laid, kindOn, dayOn, wentOf}
 use Rattle.desk.specs.declared.Desk.{Desk}
-use Rattle.figure.specs.Figure1.{Model, causal, Updates, ∅, remove, include, assign, Assigned, Loop, ends, assigns, passes}
+use Rattle.figure.specs.Figure1.{causal, Updates, remove, Assigned, Loop, ends, assigns, passes}
 use Rattle.figure.specs.Map.{modelOf, updatesOf, updatesIn}
 use Rattle.figure.proofs.Laws.Maps.{copy-put}
 use Rattle.figure.proofs.Laws.Reads.{model-is-causal}

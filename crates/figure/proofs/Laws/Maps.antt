@@ -5,18 +5,16 @@
 -- Assumes nothing.
 use Prim.Native.Nat.{ℕ, _<_, _≤_}
 use mathlib.Core.Path.{_≡_, refl, sym, ap, _∙_, fun-ext}
-use mathlib.Core.Bool.{Bool, true, false, cond, not, false≢true}
+use mathlib.Core.Bool.{Bool, true, false, cond, false≢true}
 use mathlib.Core.List.{List}
 use mathlib.Core.Option.{Option, none, some, Option·some-ne-none}
-use native.Mathlib.Omega.{arith}
 use lib.Dec.{eqb, ltb}
 use lib.IntN.{ℤ, pos}
 use lib.ListN.{length}
-use borrow.Author.Tests.{eqb-true, eqb-false, eq-eqb, ne-eqb, ltb-true, ltb-false, not-true, not-false}
+use borrow.Author.Tests.{eqb-true, eqb-false, ne-eqb, ltb-true, ltb-false}
 use Rattle.content.specs.declared.Content.{Content}
-use Rattle.content.specs.Content.{kindOf, dayOf, contentOf}
-use Rattle.content.proofs.Laws.Content.{content-again}
-use Rattle.cells.specs.Cells.{kindAt, dayAt, contentAt, blank, filled, putIf, placeAt}
+use Rattle.content.specs.Content.{contentOf}
+use Rattle.cells.specs.Cells.{contentAt, filled, putIf}
 use Rattle.cells.specs.Cells as cells
 use Rattle.cells.proofs.Laws.{place-put, place-kept, some-at, some-if, no-place}
 use Rattle.figure.specs.Figure1.{Updates, ∅, remove, include, assign, Process}

@@ -1,10 +1,9 @@
 -- An open that is carried out is Figure 1's initialization; a refused call is no step.
 -- Assumes nothing.
-use Prim.Native.Nat.{ℕ, _<_, _≤_}
-use mathlib.Core.Path.{_≡_, refl, sym, ap, _∙_, fun-ext, subst}
+use Prim.Native.Nat.{ℕ}
+use mathlib.Core.Path.{_≡_, refl, sym, ap, _∙_, fun-ext}
 use mathlib.Core.Bool.{Bool, true, false, cond}
 use mathlib.Core.List.{List, [], _++_}
-use mathlib.Core.Option.{none}
 use native.Mathlib.Nat.{zero-mod}
 use lib.Dec.{ltb}
 use lib.ListN.{length, drop, replicate, getD-replicate}

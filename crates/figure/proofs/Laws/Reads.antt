@@ -1,27 +1,25 @@
 -- A read that is carried out is Figure 1's r_p(x): it returns the copy, or blocks, by the same test.
 --   waits-if, waits-only-if        01's test of a read that waits is Figure 1's
 -- Assumes nothing.
-use Prim.Native.Nat.{ℕ, suc, _+_, _-_}
+use Prim.Native.Nat.{ℕ, _+_, _-_}
 use mathlib.Core.Path.{_≡_, refl, sym, ap, _∙_, subst, subst₂}
-use mathlib.Core.Bool.{Bool, true, false, cond, not, _&&_, false≢true}
-use mathlib.Core.Option.{Option, none, some, Option·some-ne-none}
+use mathlib.Core.Bool.{Bool, true, false, cond, not, false≢true}
+use mathlib.Core.Option.{none, some, Option·some-ne-none}
 use native.Mathlib.Omega.{arith}
-use native.Mathlib.Numerals.{add-one}
 use lib.Dec.{eqb}
-use borrow.Author.Tests.{eqb-true, eqb-false, eq-eqb, ne-eqb, not-true, not-false}
-use Rattle.answer.specs.Answer.{answered}
+use borrow.Author.Tests.{eqb-false, ne-eqb, not-true}
 use Rattle.answer.specs.Promises.{Silent}
 use Rattle.answer.proofs.Laws.{answered-only-if, changed-if}
 use Rattle.content.specs.declared.Content.{Content}
-use Rattle.cells.specs.Cells.{kindAt, contentAt, blank, filled}
+use Rattle.cells.specs.Cells.{contentAt, blank, filled}
 use Rattle.cells.specs.Cells as cells
 use Rattle.sheet.proofs.Laws.Bools.{and-split}
 use Rattle.sound.specs.Head.{ownTurn, turnDesk, readWaits}
 use Rattle.desk.specs.declared.Desk.{Desk}
 use Rattle.desk.specs.Answers.{holds, waits}
 use Rattle.desk.specs.Calls.{readRules, mustWait, waitingDesk, readOf}
-use Rattle.figure.specs.Figure1.{Model, sequential, causal, cache, Updates, ∅, Process, Waits, reads, blocks, read, block}
-use Rattle.figure.specs.Map.{modelOf, processOf, updatesOf}
+use Rattle.figure.specs.Figure1.{Model, sequential, causal, cache, ∅, Waits, reads, blocks, read, block}
+use Rattle.figure.specs.Map.{modelOf, processOf}
 use Rattle.figure.specs.Promises.{StepOf, ReadIsAStep, WaitIsAStep}
 use Rattle.figure.proofs.Laws.Carried.{read-holds, read-waits}
 use Rattle.figure.proofs.Laws.Maps.{no-updates, some-updates, same-process}

@@ -1,46 +1,45 @@
 -- A send that is carried out is Figure 1's send_updates(): the sheet in the buffer carries updates_p, and no read is blocked.
 --   pending-carried          the pending entries, as a set, are updates_p
 -- Assumes nothing.
-use Prim.Native.Nat.{ℕ, zero, suc, _+_, _%_, _<_, _≤_}
-use mathlib.Core.Path.{_≡_, refl, sym, ap, _∙_, fun-ext, subst, subst₂}
-use mathlib.Core.Bool.{Bool, true, false, cond, not, _&&_, false≢true}
+use Prim.Native.Nat.{ℕ, zero, suc, _+_, _<_, _≤_}
+use mathlib.Core.Path.{_≡_, refl, sym, ap, _∙_, fun-ext, subst}
+use mathlib.Core.Bool.{Bool, true, false, cond, not}
 use mathlib.Core.List.{List, [], _∷_, _++_}
 use mathlib.Core.Option.{Option, none, some}
 use native.Mathlib.Omega.{arith}
 use native.Mathlib.Nat.{mod-add-mod}
 use lib.Dec.{eqb, ltb}
 use lib.IntN.{ℤ, pos}
-use lib.ListN.{length, drop, replicate}
+use lib.ListN.{length, drop}
 use mir.Syntax.{w32}
 use mir.Val.{SFits}
 use mir.Facts.{toZ-ofZ}
-use borrow.Author.Tests.{eqb-true, eqb-false, eq-eqb, ne-eqb, ltb-true, ltb-false, lt-ltb, le-ltb, not-false, not-true}
-use Rattle.answer.specs.Answer.{Answer, answered}
+use borrow.Author.Tests.{eqb-true, eqb-false, ltb-true, ltb-false, lt-ltb, le-ltb, not-false}
+use Rattle.answer.specs.Answer.{answered}
 use Rattle.answer.specs.Promises.{Silent}
 use Rattle.answer.proofs.Laws.{answered-only-if, changed-if}
 use Rattle.content.specs.declared.Content.{Content}
 use Rattle.content.specs.Content.{contentOf}
 use Rattle.layout.specs.declared.Entry.{Entry}
-use Rattle.layout.specs.declared.Numbers.{Numbers}
-use Rattle.layout.specs.Layout.{contentIn, entriesOf, trailerIn, numbersOf}
+use Rattle.layout.specs.Layout.{contentIn, trailerIn, numbersOf}
 use Rattle.sheet.specs.Good.{good}
 use Rattle.sheet.specs.Reading.{Sheet, sheetIn}
 use Rattle.sheet.proofs.Laws.Reading.{good-read}
 use Rattle.cells.specs.Cells.{kindAt, dayAt, contentAt, filled}
 use Rattle.cells.proofs.Laws.{no-place}
-use Rattle.sound.specs.Head.{turnDesk, ownTurn, readWaits, waitCell}
-use Rattle.sound.specs.Sound.{dayFits, sameDay}
+use Rattle.sound.specs.Head.{turnDesk, ownTurn, readWaits}
+use Rattle.sound.specs.Sound.{dayFits}
 use Rattle.sound.proofs.Laws.Sound.{Sound, sound-says}
 use Rattle.sound.proofs.Laws.Days.{same-day}
 use Rattle.pending.specs.Pending.{entryIn, pendingBelow, pendingEntries, numbersFor, sheetOf}
 use Rattle.pending.proofs.Laws.Good.{FairPlaces, FairHead, sheet-is-good, sheet-reads-back}
 use Rattle.desk.specs.declared.Desk.{Desk}
 use Rattle.desk.specs.Answers.{sent}
-use Rattle.desk.specs.Calls.{lastTurn, sendRules, nextHead, sentDesk, sendOf}
+use Rattle.desk.specs.Calls.{lastTurn, sendRules, sentDesk, sendOf}
 use Rattle.desk.specs.Values.{DeskFits}
-use Rattle.figure.specs.Figure1.{Updates, ∅, include, broadcasts, send}
+use Rattle.figure.specs.Figure1.{broadcasts, send}
 use Rattle.figure.specs.Map.{processOf, updatesOf, updatesIn, carried}
-use Rattle.figure.specs.Promises.{StepOf, SendStep, SendIsAStep}
+use Rattle.figure.specs.Promises.{StepOf, SendIsAStep}
 use Rattle.figure.proofs.Laws.Carried.{sent-same}
 use Rattle.figure.proofs.Laws.Maps.{same-process}
 use Rattle.figure.proofs.Laws.Opens.{alike}

@@ -2,20 +2,19 @@
 -- Assumes nothing.
 use Prim.Native.Nat.{ℕ, _+_, _%_, _<_, _≤_}
 use mathlib.Core.Path.{_≡_, refl, sym, ap, _∙_, subst, subst₂}
-use mathlib.Core.Bool.{Bool, true, false, cond, not, _&&_, false≢true}
+use mathlib.Core.Bool.{Bool, true, false, cond, _&&_, false≢true}
 use mathlib.Core.List.{List, [], _∷_}
 use mathlib.Core.Option.{Option, none, some}
 use native.Mathlib.Omega.{arith}
 use native.Mathlib.Nat.{mod-add-mod}
-use lib.Dec.{eqb, ltb, leb}
+use lib.Dec.{eqb}
 use lib.ListN.{length}
-use borrow.Author.Tests.{eqb-true, eqb-false, eq-eqb, ltb-true, lt-ltb, not-false}
-use Rattle.answer.specs.Answer.{answered}
+use borrow.Author.Tests.{eqb-true, eqb-false, ltb-true, lt-ltb, not-false}
 use Rattle.answer.specs.Promises.{Silent}
 use Rattle.answer.proofs.Laws.{answered-only-if, changed-if}
 use Rattle.content.specs.declared.Content.{Content}
 use Rattle.layout.specs.declared.Entry.{Entry}
-use Rattle.layout.specs.Layout.{trailerIn, numbersOf, entriesOf}
+use Rattle.layout.specs.Layout.{trailerIn, numbersOf}
 use Rattle.sheet.specs.Good.{good, every, rising, below, kindAndDay}
 use Rattle.sheet.proofs.Laws.Bools.{and-split}
 use Rattle.sheet.proofs.Laws.Good.{good-entries-are}
@@ -24,15 +23,15 @@ use Rattle.sound.specs.Head.{causal, turnDesk, ownTurn, readWaits, waitCell}
 use Rattle.sound.proofs.Laws.Sound.{Sound, sound-says}
 use Rattle.tray.specs.Tray.{free, sheetAt, holdsGood, clearedIn}
 use Rattle.tray.proofs.Laws.Places.{holds-says, holds-not-free, cleared-free, cleared-others, SamePlace, same-holds, same-sheet-held}
-use Rattle.applying.specs.Applying.{goes, laid, kindOn, dayOn, wentOf}
+use Rattle.applying.specs.Applying.{goes, wentOf}
 use Rattle.desk.specs.declared.Desk.{Desk}
 use Rattle.desk.specs.Answers.{taken}
-use Rattle.desk.specs.Calls.{nextHead, isNext, takeRules, entriesTaken, readEnds, takenDesk, waitedFor, takeOf}
+use Rattle.desk.specs.Calls.{nextHead, isNext, takeRules, entriesTaken, takenDesk, waitedFor, takeOf}
 use Rattle.desk.proofs.Laws.Next.{next-says}
 use Rattle.figure.specs.Figure1.{Process, reads, finish, applies, apply}
-use Rattle.figure.specs.Map.{modelOf, processOf, updatesIn, updatesOf, carried, received}
-use Rattle.figure.specs.Promises.{StepOf, Finishes, nothing-to-finish, finishes, TakeStep, TakeIsAStep}
-use Rattle.figure.proofs.Laws.Carried.{TakenSame, taken-same}
+use Rattle.figure.specs.Map.{processOf, updatesIn, updatesOf, received}
+use Rattle.figure.specs.Promises.{StepOf, Finishes, nothing-to-finish, finishes, TakeIsAStep}
+use Rattle.figure.proofs.Laws.Carried.{taken-same}
 use Rattle.figure.proofs.Laws.Loops.{entries-loop}
 use Rattle.figure.proofs.Laws.Maps.{same-process}
 

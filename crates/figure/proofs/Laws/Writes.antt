@@ -1,27 +1,21 @@
 -- A write that is carried out is Figure 1's w_p(x)v, and an open its initialization.
 -- Assumes nothing.
-use Prim.Native.Nat.{ℕ, _<_}
-use mathlib.Core.Path.{_≡_, refl, sym, ap, _∙_, fun-ext, subst}
-use mathlib.Core.Bool.{Bool, true, false, not}
-use mathlib.Core.List.{[]}
+use Prim.Native.Nat.{_<_}
+use mathlib.Core.Path.{_≡_, refl, sym, ap, _∙_, subst}
 use mathlib.Core.Option.{none}
 use native.Mathlib.Omega.{arith}
-use native.Mathlib.Nat.{zero-mod}
-use lib.Dec.{eqb, leb}
 use borrow.Author.Tests.{leb-false, eqb-false, not-false}
-use Rattle.answer.specs.Answer.{answered}
 use Rattle.answer.specs.Promises.{Silent}
 use Rattle.answer.proofs.Laws.{answered-only-if, changed-if}
 use Rattle.content.specs.declared.Content.{Content}
 use Rattle.content.specs.Content.{kindOf, dayOf, contentOf}
 use Rattle.content.proofs.Laws.Content.{content-again}
 use Rattle.cells.specs.Cells.{contentAt}
-use Rattle.sound.specs.Head.{readWaits}
 use Rattle.sound.proofs.Laws.Sound.{sound-says}
 use Rattle.desk.specs.declared.Desk.{Desk}
-use Rattle.desk.specs.Answers.{opened, stored}
+use Rattle.desk.specs.Answers.{stored}
 use Rattle.desk.specs.Calls.{writeRules, writtenDesk, writeOf}
-use Rattle.figure.specs.Figure1.{Updates, assign, include, remove, Process, writes, write}
+use Rattle.figure.specs.Figure1.{assign, include, remove, writes, write}
 use Rattle.figure.specs.Map.{processOf, updatesOf}
 use Rattle.figure.specs.Promises.{StepOf, WriteIsAStep}
 use Rattle.figure.proofs.Laws.Maps.{copy-put, updates-put, same-process}

@@ -1,6 +1,5 @@
 -- `steps::read_answer` meets its contract.
 -- Assumes nothing.
-use borrow.Author.Needs.{needs}
 use Rattle.desk.specs.Parts.{readAnswer}
 use Rattle.desk.proofs.steps.read_answer.Statement.{statement}
 use Rattle.desk.proofs.steps.read_answer.Tie as tie

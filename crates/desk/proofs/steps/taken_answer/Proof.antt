@@ -1,6 +1,5 @@
 -- `steps::taken_answer` meets its contract.
 -- Assumes nothing.
-use borrow.Author.Needs.{needs}
 use Rattle.desk.specs.Parts.{takenAnswer}
 use Rattle.desk.proofs.steps.taken_answer.Statement.{statement}
 use Rattle.desk.proofs.steps.taken_answer.Tie as tie
