@@ -227,15 +227,7 @@ impl Desk {
         let mut kind = self.kind;
         let mut day = self.day;
         let pkind = self.pkind;
-        let went = steps::apply_from(
-            h.mode == 2,
-            &mut kind,
-            &mut day,
-            &pkind,
-            tray,
-            q,
-            looked.entries,
-        );
+        let went = steps::apply_from(h, &mut kind, &mut day, &pkind, tray, q, looked.entries);
         let over = steps::read_ends(h);
         let c = cells::content_at(&kind, &day, steps::wait_cell(h));
         tray::clear(tray, q);

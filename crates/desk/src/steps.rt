@@ -3,7 +3,7 @@ ghost use mathlib.Core.Bool.{_&&_};
 ghost use mathlib.Core.Path.{_≡_};
 ghost use Prim.Native.Nat.{_+_, _<_, _≤_};
 ghost use lib.ListN.{length, drop};
-ghost use Rattle.sound.specs.Head.{waitCell};
+ghost use Rattle.sound.specs.Head.{causal, waitCell};
 ghost use Rattle.tray.specs.Tray.{start};
 ghost use Rattle.applying.specs.Applying.{entriesIn, Applies};
 ghost use Rattle.desk.specs.Calls.{nextHead, readEnds, isNext};
@@ -167,7 +167,7 @@ pub(crate) fn look(h: Head, tray: &[u8], q: u8) -> Looked
 
 // The first entries of the sheet in the place of desk q go to the shelf.
 pub(crate) fn apply_from(
-    causal: bool,
+    h: Head,
     kind: &mut [u8; 64],
     day: &mut [i32; 64],
     pkind: &[u8; 64],
@@ -176,10 +176,10 @@ pub(crate) fn apply_from(
     entries: u8,
 ) -> u8
     requires { ⌜ start q + 2 ≤ length (now tray) ⌝ }
-    ensures { λ r. ⌜ Applies causal (now (pkind .entry)) (entriesIn (drop (start q + 2) (now (tray .entry))) entries) (now (kind .entry)) (now (day .entry)) r (now (kind .exit)) (now (day .exit)) ⌝ }
+    ensures { λ r. ⌜ Applies (causal h) (now (pkind .entry)) (entriesIn (drop (start q + 2) (now (tray .entry))) entries) (now (kind .entry)) (now (day .entry)) r (now (kind .exit)) (now (day .exit)) ⌝ }
 {
     let at = 398 * (q as usize) + 2;
-    applying::apply(causal, kind, day, pkind, &tray[at..], entries)
+    applying::apply(h.mode == 2, kind, day, pkind, &tray[at..], entries)
 }
 
 pub(crate) fn taken_answer(turn: u32, entries: u8, applied: u8, over: bool, c: Content) -> Answer

@@ -183,7 +183,7 @@ module _ (d : Desk) (tray : List ℕ) where
 
           pub took :
               {kind′ : List ℕ} {day′ : List ℤ} {went cell wait : ℕ} {over : Bool} {c : Content} {h′ : Head} {tray′ : List ℕ} {a : declared.Answer}
-              → Applies (eqb (d .head .mode) 2) (d .pkind) (entriesIn (drop (start q + 2) tray) (l .entries)) (d .kind) (d .day) went kind′ day′
+              → Applies (causal (d .head)) (d .pkind) (entriesIn (drop (start q + 2) tray) (l .entries)) (d .kind) (d .day) went kind′ day′
               → over ≡ readEnds (d .head) → cell ≡ waitCell (d .head) → c ≡ contentAt kind′ day′ cell → wait ≡ cond over 0 (d .head .wait)
               → h′ ≡ nextHead (d .head) wait → tray′ ≡ clearedIn tray q → a ≡ takenAnswer (d .head .turn) (l .entries) went over c
               → outcome (record { answer = a; desk = record { head = h′; kind = kind′; day = day′; pkind = d .pkind; pday = d .pday } }) tray′ ≡ takeOf d tray
