@@ -23,7 +23,7 @@ pub data Value : Type 0 where
   sent : (turn entries : ℕ) → Value
   -- "a deliver `held`"
   held : Value
-  -- Take: "The answer always gives the sheet's turn number, its number of entries and how many of them went to the shelf"; "if the turn is
+  -- Take: "The answer always gives the sheet's turn number, its number of entries and how many of them went to the shelf"; "If the turn is
   -- now the desk's own and a read waits, the answer carries that cell's content"
   taken : (turn entries applied : ℕ) (waited : Option Content) → Value
 

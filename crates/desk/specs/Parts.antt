@@ -4,22 +4,21 @@ use Prim.Native.Nat.{ℕ, _+_, _*_}
 use mathlib.Core.Bool.{Bool, cond, not, _&&_}
 use mathlib.Core.List.{List, [], _∷_}
 use lib.Dec.{eqb, leb, ltb}
-use Rattle.answer.specs.Answer.{_if_}
+use Rattle.answer.specs.Answer.{refused, answered, _if_}
+use Rattle.answer.specs.Answer as any
 use Rattle.answer.specs.Parts.{numberOf}
 use Rattle.layout.specs.declared.Numbers.{Numbers}
 use Rattle.sound.specs.declared.Head.{Head}
 use Rattle.sound.specs.Head.{sequential, ownTurn, readWaits}
 use Rattle.content.specs.declared.Content.{Content}
 use Rattle.cells.specs.Cells.{blank, filled, some}
-use Rattle.tray.specs.declared.Place.{Place}
-use Rattle.tray.specs.declared.Place.the-variants as place
-use Rattle.tray.specs.Tray.{placeOf, heldIn}
+use Rattle.tray.specs.Tray.{placeOf, saidPlace, heldIn}
 use Rattle.desk.specs.declared.steps.Looked.{Looked}
 use Rattle.desk.specs.Calls.{lastTurn, openRules, modeFor, freshHead, isNext}
 use Rattle.desk.specs.declared.Answer.{Answer}
 use Rattle.desk.specs.declared.Answer.the-variants as answers
 
--- the numbers of the rules that are tested without a look at a sheet: `ok` is whether the record is sound, `length` a tray's length
+-- the numbers of the rules that are tested without a look at a sheet: `ok` is whether the record is sound, `size` a tray's length
 unfoldable pub openNumber : ℕ → ℕ → ℕ → ℕ → ℕ
 openNumber n m own mode = numberOf (openRules n m own mode)
 
@@ -33,11 +32,11 @@ unfoldable pub sendNumber : Bool → Head → ℕ
 sendNumber ok h = numberOf (5 if not ok ∷ 9 if not (ownTurn h) ∷ 10 if eqb (h .turn) lastTurn ∷ [])
 
 unfoldable pub trayNumber : Bool → Head → ℕ → ℕ
-trayNumber ok h length = numberOf (5 if not ok ∷ 12 if not (eqb length (398 * h .n)) ∷ [])
+trayNumber ok h size = numberOf (5 if not ok ∷ 12 if not (eqb size (398 * h .n)) ∷ [])
 
 unfoldable pub takeNumber : Bool → Head → ℕ → ℕ
-takeNumber ok h length =
-    numberOf (5 if not ok ∷ 12 if not (eqb length (398 * h .n)) ∷ 19 if ownTurn h ∷ 10 if eqb (h .turn) lastTurn ∷ [])
+takeNumber ok h size =
+    numberOf (5 if not ok ∷ 12 if not (eqb size (398 * h .n)) ∷ 19 if ownTurn h ∷ 10 if eqb (h .turn) lastTurn ∷ [])
 
 -- those of a good sheet with these numbers, whose sender's place is free or not
 unfoldable pub sheetNumber : Head → Numbers → Bool → ℕ
@@ -73,13 +72,12 @@ unfoldable pub heldIf : Bool → List ℕ → ℕ → List ℕ → List ℕ
 heldIf on tray q s = cond on (heldIn tray q s) tray
 
 -- a look at the place of desk q: 20, 21, or the entries of its sheet
-abbrev pub lookedIn : Head → Place → Looked
-lookedIn h place.Free = record { number = 20; entries = 0 }
-lookedIn h place.Spoilt = record { number = 21; entries = 0 }
-lookedIn h (place.Holds x) = record { number = cond (not (isNext h x)) 21 0; entries = x .entries }
+abbrev pub lookedIn : Head → any.Answer Numbers → Looked
+lookedIn h (refused k) = record { number = k; entries = 0 }
+lookedIn h (answered x) = record { number = cond (not (isNext h x)) 21 0; entries = x .entries }
 
 unfoldable pub lookedAt : Head → List ℕ → ℕ → Looked
-lookedAt h tray q = lookedIn h (placeOf tray q)
+lookedAt h tray q = lookedIn h (saidPlace (placeOf tray q))
 
 unfoldable pub takenAnswer : ℕ → ℕ → ℕ → Bool → Content → Answer
 takenAnswer turn entries applied over c = cond over (answers.TakenAndRead turn entries applied c) (answers.Taken turn entries applied)

@@ -3,7 +3,7 @@
 // Each call takes any record, buffer, tray and sheet, forged ones too, and hands the next record back
 // beside its answer. Its promise is one equation with its definition in specs/Calls.antt: `outcome`
 // of what it gives back, with the lent bytes as they are then, is what the definition says. A record
-// is tested where it lies and copied once, into the outcome.
+// is tested where it lies, and copied into the outcome.
 ghost use mathlib.Core.List.{[]};
 ghost use mathlib.Core.Path.{_≡_};
 ghost use Rattle.desk.specs.Answers.{outcome};

@@ -1,4 +1,5 @@
-// The numbers of refusals that need no look at a sheet, each call's in 01's order; 0 is none.
+// The numbers of refusals, each call's in 01's order; 0 is none. 11, 13, 20 and 21 are found where a
+// sheet is written, read or looked at.
 ghost use mathlib.Core.Path.{_≡_};
 ghost use Rattle.desk.specs.Parts.{openNumber, writeNumber, readNumber, sendNumber, trayNumber, takeNumber, sheetNumber, given};
 use crate::Answer;
@@ -46,10 +47,10 @@ pub(crate) fn send_number(ok: bool, h: Head) -> u8
 }
 
 // Deliver: 5, 12; then the sheet is looked at.
-pub(crate) fn tray_number(ok: bool, h: Head, length: usize) -> u8
-    ensures { λ r. ⌜ r ≡ trayNumber ok h length ⌝ }
+pub(crate) fn tray_number(ok: bool, h: Head, size: usize) -> u8
+    ensures { λ r. ⌜ r ≡ trayNumber ok h size ⌝ }
 {
-    let long = first(!(length == 398 * (h.n as usize)), 12, 0);
+    let long = first(!(size == 398 * (h.n as usize)), 12, 0);
     first(!ok, 5, long)
 }
 
@@ -65,13 +66,13 @@ pub(crate) fn sheet_number(h: Head, x: Numbers, free: bool) -> u8
 }
 
 // Take: 5, 12, 19, 10; then the place is looked at.
-pub(crate) fn take_number(ok: bool, h: Head, length: usize) -> u8
-    ensures { λ r. ⌜ r ≡ takeNumber ok h length ⌝ }
+pub(crate) fn take_number(ok: bool, h: Head, size: usize) -> u8
+    ensures { λ r. ⌜ r ≡ takeNumber ok h size ⌝ }
 {
     let own = h.own_turn();
     let last = first(h.turn == 4294967295, 10, 0);
     let mine = first(own, 19, last);
-    let long = first(!(length == 398 * (h.n as usize)), 12, mine);
+    let long = first(!(size == 398 * (h.n as usize)), 12, mine);
     first(!ok, 5, long)
 }
 

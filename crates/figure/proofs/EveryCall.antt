@@ -4,7 +4,7 @@
 use Rattle.figure.specs.Promises.{EveryCallIsAStep}
 use Rattle.figure.proofs.Laws.Opens.{open-initializes, refused-is-no-step}
 use Rattle.figure.proofs.Laws.Writes.{write-is-a-step}
-use Rattle.figure.proofs.Laws.Reads.{read-is-a-step, wait-is-a-step}
+use Rattle.figure.proofs.Laws.Reads.{read-is-a-step}
 use Rattle.figure.proofs.Laws.Sends.{send-is-a-step}
 use Rattle.figure.proofs.Laws.Delivers.{deliver-is-an-arrival}
 use Rattle.figure.proofs.Laws.Takes.{take-is-a-step}
@@ -15,7 +15,6 @@ every-call-is-a-step =
       open-initializes = open-initializes;
       write-is-a-step = write-is-a-step;
       read-is-a-step = read-is-a-step;
-      wait-is-a-step = wait-is-a-step;
       send-is-a-step = send-is-a-step;
       deliver-is-an-arrival = deliver-is-an-arrival;
       take-is-a-step = take-is-a-step;

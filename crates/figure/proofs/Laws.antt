@@ -1,4 +1,3 @@
-pub mod Carried
 pub mod Maps
 pub mod Writes
 pub mod Reads

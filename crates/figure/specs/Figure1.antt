@@ -1,5 +1,5 @@
 -- Source document 000, Figure 1: "The algorithm A(model) for process p. It is invoked with the parameter model, which defines the consistency
--- model that it must implement." Variables are numbered; `A` are their values.
+-- model that it must implement." Variables and processes are numbered; a value of a variable is one of the type A.
 -- Assumes nothing.
 use Prim.Native.Nat.{ℕ, suc, _+_, _%_}
 use mathlib.Core.Path.{_≡_}
@@ -32,12 +32,14 @@ include x v updates y = cond (eqb y x) (some v) (updates y)
 abbrev pub assign : {A : Type 0} → ℕ → A → (ℕ → A) → ℕ → A
 assign x v copy y = cond (eqb y x) v (copy y)
 
--- a process p: x_p for each variable x, updates_p, turn_p; and the variable of a read that is blocked in "wait until turn_p = p", if one is
+-- a process p: x_p for each variable x, updates_p, turn_p; the variable of a read that is blocked in "wait until turn_p = p", if one is; and "the
+-- receiving buffer of process p": for each process q, the set updates_q that is in it, if one is
 pub record Process (A : Type 0) : Type 0 where
   pub copy : ℕ → A
   pub updates : Updates A
   pub turn : ℕ
   pub blocked : Option ℕ
+  pub buffer : ℕ → Option (Updates A)
 
 -- what a piece of the algorithm does to be seen: w_p(x)v; r_p(x)v; a read of x that blocks; broadcast(updates_p); and an application of
 -- updates_q, with the number of pairs extracted and the number of those assigned
@@ -48,9 +50,13 @@ pub data Event (A : Type 0) : Type 0 where
   broadcasts : (updates : Updates A) → Event A
   applies : (q : ℕ) (updates : Updates A) (extracted assigned : ℕ) → Event A
 
--- "Initialization:: turn_p ← 0; updates_p ← ∅"
+-- "Initialization:: turn_p ← 0; updates_p ← ∅"; no read is blocked, and nothing was received
 abbrev pub initial : {A : Type 0} → (ℕ → A) → Process A
-initial copy = record { copy = copy; updates = ∅; turn = 0; blocked = none }
+initial copy = record { copy = copy; updates = ∅; turn = 0; blocked = none; buffer = λ q. none }
+
+-- "take updates_q from the receiving buffer"
+abbrev pub without : {A : Type 0} → ℕ → (ℕ → Option (Updates A)) → ℕ → Option (Updates A)
+without q buffer r = cond (eqb r q) none (buffer r)
 
 -- "turn_p ← (turn_p + 1) mod n"
 abbrev pub nextTurn : ℕ → ℕ → ℕ
@@ -78,25 +84,27 @@ module _ {A : Type 0} (n p : ℕ) (model : Model) where
     passes : {u : Updates A} {c c′ : ℕ → A} {k j : ℕ} (x : ℕ) (v : A) → u x ≡ some v → (Assigned own x → ⊥)
         → Loop own (remove x u) c k j c′ → Loop own u c (suc k) j c′
 
-  -- the pieces, each atomic; a process has one operation at a time, so it writes and reads only where no read of its own is blocked
+  -- the pieces, each atomic. A process that is blocked in a read issues no other operation meanwhile: it writes and reads only where no read of
+  -- its own is blocked (01: 8, "a read waits at this desk")
   pub data Step : Process A → Event A → Process A → Type 0 where
     -- "w_p(x)v": "x_p ← v; if ((x, ·) ∈ updates_p) then remove (x, ·) from updates_p; include (x, v) in updates_p"
     write : (s : Process A) (x : ℕ) (v : A) → s .blocked ≡ none
-        → Step s (writes x v) (record { copy = assign x v (s .copy); updates = include x v (remove x (s .updates)); turn = s .turn; blocked = none })
+        → Step s (writes x v) (record { copy = assign x v (s .copy); updates = include x v (remove x (s .updates)); turn = s .turn; blocked = none; buffer = s .buffer })
     -- "r_p(x)": it need not wait, "return(x_p)"
     read : (s : Process A) (x : ℕ) → s .blocked ≡ none → (Waits s x → ⊥) → Step s (reads x (s .copy x)) s
     -- or it waits, and "other tasks are free to access the algorithm variables"
     block : (s : Process A) (x : ℕ) → s .blocked ≡ none → Waits s x
-        → Step s (blocks x) (record { copy = s .copy; updates = s .updates; turn = s .turn; blocked = some x })
+        → Step s (blocks x) (record { copy = s .copy; updates = s .updates; turn = s .turn; blocked = some x; buffer = s .buffer })
     -- "until turn_p = p": then "return(x_p)"
     finish : (s : Process A) (x : ℕ) → s .blocked ≡ some x → s .turn ≡ p
-        → Step s (reads x (s .copy x)) (record { copy = s .copy; updates = s .updates; turn = s .turn; blocked = none })
-    -- "send_updates() :: atomic task activated whenever turn_p = p"; "when turn_p = p, a blocked read operation finishes before send_updates()
-    -- is executed"
+        → Step s (reads x (s .copy x)) (record { copy = s .copy; updates = s .updates; turn = s .turn; blocked = none; buffer = s .buffer })
+    -- "send_updates() :: atomic task activated whenever turn_p = p", which sends "to all processes, except itself"; "when turn_p = p, a blocked read
+    -- operation finishes before send_updates() is executed"
     send : (s : Process A) → s .turn ≡ p → s .blocked ≡ none
-        → Step s (broadcasts (s .updates)) (record { copy = s .copy; updates = ∅; turn = nextTurn n (s .turn); blocked = none })
+        → Step s (broadcasts (s .updates)) (record { copy = s .copy; updates = ∅; turn = nextTurn n (s .turn); blocked = none; buffer = s .buffer })
     -- "apply_updates() :: atomic task activated whenever turn_p = q, p ≠ q, and the set updates_q from process q is in the receiving buffer of
     -- process p"
-    apply : (s : Process A) (q : ℕ) (updates : Updates A) {k j : ℕ} {after : ℕ → A} → s .turn ≡ q → p ≢ q
+    apply : (s : Process A) (q : ℕ) (updates : Updates A) {k j : ℕ} {after : ℕ → A} → s .turn ≡ q → p ≢ q → s .buffer q ≡ some updates
         → Loop (s .updates) updates (s .copy) k j after
-        → Step s (applies q updates k j) (record { copy = after; updates = s .updates; turn = nextTurn n (s .turn); blocked = s .blocked })
+        → Step s (applies q updates k j)
+        (record { copy = after; updates = s .updates; turn = nextTurn n (s .turn); blocked = s .blocked; buffer = without q (s .buffer) })

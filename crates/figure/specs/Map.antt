@@ -17,8 +17,8 @@ use Rattle.desk.specs.declared.Desk.{Desk}
 use Rattle.figure.specs.Figure1.{Model, sequential, causal, cache, Updates, ∅, include, Process}
 
 -- 01: "mode (1 sequential, 2 causal, 3 cache)"
-abbrev pub modelOf : Desk → Model
-modelOf d = cond (eqb (d .head .mode) 1) sequential (cond (eqb (d .head .mode) 2) causal cache)
+abbrev pub modelOf : ℕ → Model
+modelOf mode = cond (eqb mode 1) sequential (cond (eqb mode 2) causal cache)
 
 -- a cell that was never written is blank: so the copies begin
 abbrev pub neverWritten : ℕ → Content
@@ -28,24 +28,26 @@ neverWritten x = Blank
 abbrev pub updatesOf : List ℕ → List ℤ → Updates Content
 updatesOf pkind pday x = cond (filled pkind x) (some (contentAt pkind pday x)) none
 
--- the shelf is x_p for each cell x; the pending entries are updates_p; "The turn is at desk (turn number mod n)"; a waiting read is blocked
-abbrev pub processOf : Desk → Process Content
-processOf d =
-    record {
-      copy = contentAt (d .kind) (d .day);
-      updates = updatesOf (d .pkind) (d .pday);
-      turn = turnDesk (d .head);
-      blocked = cond (readWaits (d .head)) (some (waitCell (d .head))) none;
-    }
-
 -- the set that entries make
 abbrev pub updatesIn : List Entry → Updates Content
 updatesIn [] = ∅
 updatesIn (e ∷ es) = include (e .cell) (contentIn e) (updatesIn es)
 
--- the set that a sheet carries; and the receiving buffer, where a good sheet in the place of desk q is updates_q
+-- the set that a sheet carries; and what is received from desk q: the set of the good sheet in its place, if there is one
 abbrev pub carried : List ℕ → Updates Content
 carried s = updatesIn (entriesOf (trailerIn s .entries) s)
 
 abbrev pub received : List ℕ → ℕ → Option (Updates Content)
 received tray q = cond (holdsGood tray q) (some (carried (sheetAt tray q))) none
+
+-- a desk and its tray: the shelf is x_p for each cell x; the pending entries are updates_p; "The turn is at desk (turn number mod n)"; a waiting read is
+-- blocked; and the tray is the receiving buffer
+abbrev pub processOf : Desk → List ℕ → Process Content
+processOf d tray =
+    record {
+      copy = contentAt (d .kind) (d .day);
+      updates = updatesOf (d .pkind) (d .pday);
+      turn = turnDesk (d .head);
+      blocked = cond (readWaits (d .head)) (some (waitCell (d .head))) none;
+      buffer = received tray;
+    }

@@ -42,6 +42,7 @@ sheetOf h pkind pday =
     let es = pendingEntries pkind pday in
     sheetBytes es (trailerFor (numbersFor h (length es)))
 
+-- 11: "buffer shorter than the sheet"
 abbrev pub roomRules : List ℕ → List ℕ → List Rule
 roomRules sheet buf = 11 if ltb (length buf) (length sheet) ∷ []
 

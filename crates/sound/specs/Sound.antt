@@ -46,7 +46,7 @@ waitSound h pkind =
     && some 64 (filled pkind)
     && not (ownTurn h)
 
--- the clauses, one to a line. "a cell's pending place is blank exactly if it is not pending" is what pending means here: a cell is
+-- the clauses, one to a line; before them, that each kind stands for a content (docs/DECISIONS.md, 24). "a cell's pending place is blank exactly if it is not pending" is what pending means here: a cell is
 -- pending if its pending place is filled
 unfoldable pub soundOf : Head → List ℕ → List ℤ → List ℕ → List ℤ → Bool
 soundOf h kind day pkind pday =

@@ -1,7 +1,7 @@
 // When a record is sound. 01, "A desk, call by call": "A record is sound if .." (specs/Sound.antt).
 //
 // A record comes as its head, the numbers, and its four arrays, lent. Each loop makes one test of
-// all 64 places and never stops early, so that it compiles to a few wide instructions.
+// its places to the last and never stops early, so that it compiles to a few wide instructions.
 ghost use mathlib.Core.Path.{_≡_};
 ghost use mathlib.Core.Bool.{cond};
 ghost use Rattle.cells.specs.Cells.{kindAt, dayAt, each};

@@ -8,6 +8,8 @@ use lib.Dec.{eqb, leb}
 use lib.ListN.{length, take, drop, replicate}
 use Rattle.numbers.specs.Numbers.{bytes, at2}
 use Rattle.laying.specs.Laying.{laidOver}
+use Rattle.answer.specs.Answer.{Answer, refused, answered}
+use Rattle.layout.specs.declared.Numbers.{Numbers}
 use Rattle.layout.specs.Layout.{trailerIn, numbersOf}
 use Rattle.sheet.specs.Good.{good}
 use Rattle.tray.specs.declared.Place.{Place}
@@ -49,6 +51,12 @@ unfoldable pub placeOf : List ℕ → ℕ → Place
 placeOf tray q =
     cond (free tray q) place.Free
     (cond (holdsGood tray q) (place.Holds (numbersOf (trailerIn (sheetAt tray q)))) place.Spoilt)
+
+-- what each case of the code's enum says: 20 "first two bytes of the turn desk's place are zero", 21, or the numbers of the sheet
+abbrev pub saidPlace : Place → Answer Numbers
+saidPlace place.Free = refused 20
+saidPlace place.Spoilt = refused 21
+saidPlace (place.Holds x) = answered x
 
 -- "sheet length (2), sheet, zeros to the end"
 abbrev pub placeBytes : List ℕ → List ℕ

@@ -9,24 +9,24 @@ use Rattle.layout.specs.declared.Numbers.{Numbers}
 use Rattle.sound.specs.declared.Head.{Head}
 use Rattle.tray.specs.declared.Place.{Place}
 use Rattle.tray.specs.declared.Place.the-variants as place
-use Rattle.tray.specs.Tray.{placeOf}
+use Rattle.tray.specs.Tray.{placeOf, saidPlace}
 use Rattle.desk.specs.declared.steps.Looked.{Looked}
 use Rattle.desk.specs.Calls.{isNext}
 use Rattle.desk.specs.Parts.{lookedIn, lookedAt}
 
 module _ (h : Head) (tray : List ℕ) (q : ℕ) (p : Place) (looks : p ≡ placeOf tray q) where
-  by-place : lookedAt h tray q ≡ lookedIn h p
+  by-place : lookedAt h tray q ≡ lookedIn h (saidPlace p)
   unfolding lookedAt
-  by-place = ap (lookedIn h) (sym looks)
+  by-place = ap (λ (x : Place). lookedIn h (saidPlace x)) (sym looks)
 
   pub look-free : p ≡ place.Free → _≡_ {A = Looked} (record { number = 20; entries = 0 }) (lookedAt h tray q)
-  look-free e = sym (by-place ∙ ap (lookedIn h) e)
+  look-free e = sym (by-place ∙ ap (λ (x : Place). lookedIn h (saidPlace x)) e)
 
   pub look-spoilt : p ≡ place.Spoilt → _≡_ {A = Looked} (record { number = 21; entries = 0 }) (lookedAt h tray q)
-  look-spoilt e = sym (by-place ∙ ap (lookedIn h) e)
+  look-spoilt e = sym (by-place ∙ ap (λ (x : Place). lookedIn h (saidPlace x)) e)
 
   pub look-holds : (x : Numbers) → p ≡ place.Holds x → {next : Bool} → next ≡ isNext h x → {k : ℕ} → k ≡ cond (not next) 21 0
       → _≡_ {A = Looked} (record { number = k; entries = x .entries }) (lookedAt h tray q)
-  look-holds x e n k = rw (k, n) (sym (by-place ∙ ap (lookedIn h) e))
+  look-holds x e n k = rw (k, n) (sym (by-place ∙ ap (λ (x : Place). lookedIn h (saidPlace x)) e))
 
 pub ruleset lookings = (look-free, look-spoilt, look-holds)

@@ -1,7 +1,7 @@
 -- A delivery that is carried out brings a sheet into the receiving buffer, and changes nothing else.
 -- Assumes nothing.
 use Prim.Native.Nat.{ℕ, _*_, _+_, _≤_}
-use mathlib.Core.Path.{_≡_, ap, _∙_}
+use mathlib.Core.Path.{_≡_, refl, sym, subst, subst₂}
 use mathlib.Core.Bool.{true}
 use mathlib.Core.List.{List}
 use native.Mathlib.Omega.{arith}
@@ -16,18 +16,19 @@ use Rattle.sheet.proofs.Laws.Bools.{and-split}
 use Rattle.sheet.proofs.Laws.Good.{good-trailer-is-fair, good-within}
 use Rattle.tray.specs.Tray.{start, heldIn}
 use Rattle.tray.proofs.Laws.Places.{place-there, held-found, held-holds, held-others}
-use Rattle.desk.specs.Answers.{held}
+use Rattle.desk.specs.declared.Desk.{Desk}
+use Rattle.desk.specs.Answers.{Value, held}
 use Rattle.desk.specs.Calls.{deliverRules, deliverOf}
-use Rattle.figure.specs.Map.{received}
-use Rattle.figure.specs.Promises.{DeliverIsAnArrival}
+use Rattle.figure.specs.Promises.{Arrival, DeliverSteps, holds-it, DeliverIsAnArrival}
 use Rattle.figure.proofs.Laws.Takes.{received-stays}
 
 pub deliver-is-an-arrival : DeliverIsAnArrival
 unfolding deliverOf
-deliver-is-an-arrival d tray s e =
+deliver-is-an-arrival d tray s v e =
     let rules = deliverRules d tray s in
     let q = trailerIn s .sender in
-    let silent : Silent rules = answered-only-if rules held held e .0 in
+    let carried-out = answered-only-if rules held v e in
+    let silent : Silent rules = carried-out .0 in
     let long : length tray ≡ 398 * d .head .n = eqb-true _ _ (not-false _ (silent .1 .0)) in
     let g : good s ≡ true = not-false _ (silent .1 .1 .0) in
     let desks : trailerIn s .desks ≡ d .head .n = eqb-true _ _ (and-split (eqb (trailerIn s .desks) (d .head .n)) (eqb (trailerIn s .cells) (d .head .m)) (not-false _ (silent .1 .1 .1 .0)) .0) in
@@ -35,9 +36,13 @@ deliver-is-an-arrival d tray s e =
     let room : start q + 398 ≤ length tray = place-there tray (d .head .n) q long (omega (arith, fair .sender-below, desks)) in
     let few : length s ≤ 396 = good-within s g .1 in
     let there = held-found tray q s few room in
-    let now = changed-if rules tray (heldIn tray q s) silent in
+    let arrived : Arrival d tray s d (heldIn tray q s) =
     record {
-      same = changed-if rules d d silent;
-      arrives = ap (λ (t : List ℕ). received t q) now ∙ rw (held-holds tray q s few room, g, there .sheet-is);
-      others = λ p other. ap (λ (t : List ℕ). received t p) now ∙ received-stays (heldIn tray q s) tray p (held-others tray p q s other);
+      same = refl;
+      sheet = there .sheet-is;
+      arrives = rw (held-holds tray q s few room, g, there .sheet-is);
+      others = λ p other. received-stays (heldIn tray q s) tray p (held-others tray p q s other);
     }
+    in
+    subst (λ (x : Desk). DeliverSteps d tray s x (deliverOf d tray s .lent) v) (sym (changed-if rules d d silent))
+    (subst₂ (λ (t : List ℕ) (x : Value). DeliverSteps d tray s d t x) (sym (changed-if rules tray (heldIn tray q s) silent)) (carried-out .1) (holds-it arrived))

@@ -69,6 +69,7 @@ module _ (kind : List ℕ) (day : List ℤ) where
 
 -- ---- processes
 
-pub same-process : {A : Type 0} {c c′ : ℕ → A} {u u′ : Updates A} {t t′ : ℕ} {b b′ : Option ℕ} → c ≡ c′ → u ≡ u′ → t ≡ t′ → b ≡ b′
-    → _≡_ {A = Process A} (record { copy = c; updates = u; turn = t; blocked = b }) (record { copy = c′; updates = u′; turn = t′; blocked = b′ })
-same-process c u t b = λ i. record { copy = c i; updates = u i; turn = t i; blocked = b i }
+pub same-process : {A : Type 0} {c c′ : ℕ → A} {u u′ : Updates A} {t t′ : ℕ} {b b′ : Option ℕ} {r r′ : ℕ → Option (Updates A)}
+    → c ≡ c′ → u ≡ u′ → t ≡ t′ → b ≡ b′ → r ≡ r′
+    → _≡_ {A = Process A} (record { copy = c; updates = u; turn = t; blocked = b; buffer = r }) (record { copy = c′; updates = u′; turn = t′; blocked = b′; buffer = r′ })
+same-process c u t b r = λ i. record { copy = c i; updates = u i; turn = t i; blocked = b i; buffer = r i }

@@ -1,9 +1,10 @@
 -- An open that is carried out is Figure 1's initialization; a refused call is no step.
 -- Assumes nothing.
 use Prim.Native.Nat.{ℕ}
-use mathlib.Core.Path.{_≡_, refl, sym, ap, _∙_, fun-ext}
+use mathlib.Core.Path.{_≡_, refl, sym, _∙_, fun-ext, subst₂}
 use mathlib.Core.Bool.{Bool, true, false, cond}
 use mathlib.Core.List.{List, [], _++_}
+use mathlib.Core.Option.{none}
 use native.Mathlib.Nat.{zero-mod}
 use lib.Dec.{ltb}
 use lib.ListN.{length, drop, replicate, getD-replicate}
@@ -21,8 +22,8 @@ use Rattle.desk.specs.declared.Desk.{Desk}
 use Rattle.desk.specs.Answers.{Value, opened, stored, holds, waits, sent, held, taken, call}
 use Rattle.desk.specs.Calls.{openRules, blankDesk, freshHead, modeFor, openOf, writeRules, writtenDesk, writeOf, readRules, mustWait, waitingDesk, readOf, sendRules, sentDesk, sendOf, deliverRules, deliverOf, takeRules, entriesTaken, takenDesk, waitedFor, takeOf}
 use Rattle.figure.specs.Figure1.{initial}
-use Rattle.figure.specs.Map.{neverWritten, processOf}
-use Rattle.figure.specs.Promises.{OpenInitializes, Unmoved, RefusedIsNoStep}
+use Rattle.figure.specs.Map.{neverWritten, processOf, received}
+use Rattle.figure.specs.Promises.{OpenSteps, initializes, OpenInitializes, Unmoved, RefusedIsNoStep}
 use Rattle.figure.proofs.Laws.Maps.{same-process}
 
 -- every place of 64 that are alike is the same
@@ -33,17 +34,19 @@ alike a i = by-test (ltb i 64) refl
     by-test true p = sym (in-place a (replicate 64 a) i (ltb-true i 64 p)) ∙ getD-replicate 64 i a a (ltb-true i 64 p)
     by-test false p = sym (no-place a (replicate 64 a) i (ltb-false i 64 p))
 
-fresh-process : (n m own mode : ℕ) → processOf (blankDesk (freshHead n m own mode)) ≡ initial neverWritten
-fresh-process n m own mode =
-    same-process (fun-ext (λ x. rw (alike {A = ℕ} 0 x))) (fun-ext (λ x. rw (alike {A = ℕ} 0 x))) (zero-mod n) refl
+fresh-process : (n m own mode : ℕ) (tray : List ℕ) → received tray ≡ (λ q. none) → processOf (blankDesk (freshHead n m own mode)) tray ≡ initial neverWritten
+fresh-process n m own mode tray clear =
+    same-process (fun-ext (λ x. rw (alike {A = ℕ} 0 x))) (fun-ext (λ x. rw (alike {A = ℕ} 0 x))) (zero-mod n) refl clear
 
 pub open-initializes : OpenInitializes
 unfolding openOf
-open-initializes n m own mode e =
+open-initializes n m own mode v e =
     let rules = openRules n m own mode in
     let zeros = blankDesk (freshHead 0 0 0 0) in
     let fresh = blankDesk (freshHead n m own (modeFor mode)) in
-    ap processOf (changed-if rules zeros fresh (answered-only-if rules opened opened e .0)) ∙ fresh-process n m own (modeFor mode)
+    let carried-out = answered-only-if rules opened v e in
+    subst₂ (λ (d : Desk) (x : Value). OpenSteps n m own mode d x) (sym (changed-if rules zeros fresh (carried-out .0))) (carried-out .1)
+    (initializes (record { process = fresh-process n m own (modeFor mode); desks = refl; cells = refl; own-number = refl; model = refl }))
 
 -- ---- refused
 

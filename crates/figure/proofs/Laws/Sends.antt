@@ -2,7 +2,7 @@
 --   pending-carried          the pending entries, as a set, are updates_p
 -- Assumes nothing.
 use Prim.Native.Nat.{ℕ, zero, suc, _+_, _<_, _≤_}
-use mathlib.Core.Path.{_≡_, refl, sym, ap, _∙_, fun-ext, subst}
+use mathlib.Core.Path.{_≡_, refl, sym, ap, _∙_, fun-ext, subst, subst₂}
 use mathlib.Core.Bool.{Bool, true, false, cond, not}
 use mathlib.Core.List.{List, [], _∷_, _++_}
 use mathlib.Core.Option.{Option, none, some}
@@ -34,13 +34,12 @@ use Rattle.sound.proofs.Laws.Days.{same-day}
 use Rattle.pending.specs.Pending.{entryIn, pendingBelow, pendingEntries, numbersFor, sheetOf}
 use Rattle.pending.proofs.Laws.Good.{FairPlaces, FairHead, sheet-is-good, sheet-reads-back}
 use Rattle.desk.specs.declared.Desk.{Desk}
-use Rattle.desk.specs.Answers.{sent}
+use Rattle.desk.specs.Answers.{Value, sent}
 use Rattle.desk.specs.Calls.{lastTurn, sendRules, sentDesk, sendOf}
 use Rattle.desk.specs.Values.{DeskFits}
 use Rattle.figure.specs.Figure1.{broadcasts, send}
 use Rattle.figure.specs.Map.{processOf, updatesOf, updatesIn, carried}
-use Rattle.figure.specs.Promises.{StepOf, SendIsAStep}
-use Rattle.figure.proofs.Laws.Carried.{sent-same}
+use Rattle.figure.specs.Promises.{StepOf, SendStep, SendSteps, sends, SendIsAStep}
 use Rattle.figure.proofs.Laws.Maps.{same-process}
 use Rattle.figure.proofs.Laws.Opens.{alike}
 
@@ -169,34 +168,37 @@ module _ (d : Desk) (fits : DeskFits d) (s : Sound (d .head) (d .kind) (d .day) 
   pub sheet-sound : good (sheetOf (d .head) (d .pkind) (d .pday)) ≡ true
   sheet-sound = sheet-is-good (d .head) (d .pkind) (d .pday) fair-head fair-places (λ i h. fits .pday i)
 
-  quiet : processOf d .blocked ≡ none
-  quiet = rw none-waits
+  quiet : (tray : List ℕ) → processOf d tray .blocked ≡ none
+  quiet tray = rw none-waits
 
-  pub sent-step : StepOf d (processOf d) (broadcasts (processOf d .updates)) (processOf (sentDesk d))
-  sent-step =
-      subst (StepOf d (processOf d) (broadcasts (processOf d .updates)))
-      (same-process refl (sym (fun-ext (λ x. rw (alike {A = ℕ} 0 x)))) (mod-add-mod (d .head .turn) (d .head .n) 1) (sym quiet))
-      (send (processOf d) at-own quiet)
+  pub sent-step : (tray : List ℕ) → StepOf d (processOf d tray) (broadcasts (processOf d tray .updates)) (processOf (sentDesk d) tray)
+  sent-step tray =
+      subst (StepOf d (processOf d tray) (broadcasts (processOf d tray .updates)))
+      (same-process refl (sym (fun-ext (λ x. rw (alike {A = ℕ} 0 x)))) (mod-add-mod (d .head .turn) (d .head .n) 1) (sym (quiet tray)) refl)
+      (send (processOf d tray) at-own (quiet tray))
 
 pub send-is-a-step : SendIsAStep
 unfolding sendOf
-send-is-a-step d buf turn entries fits e =
+send-is-a-step d tray buf v fits e =
     let rules = sendRules d buf in
     let bytes : List ℕ = sheetOf (d .head) (d .pkind) (d .pday) in
     let count = length (pendingEntries (d .pkind) (d .pday)) in
-    let carried-out = answered-only-if rules (sent (d .head .turn) count) (sent turn entries) e in
+    let carried-out = answered-only-if rules (sent (d .head .turn) count) v e in
     let silent : Silent rules = carried-out .0 in
-    let same = sent-same (d .head .turn) count turn entries (carried-out .1) in
     let s = sound-says {h = d .head} {kind = d .kind} {day = d .day} {pkind = d .pkind} {pday = d .pday} (not-false _ (silent .0)) in
     let own = not-false _ (silent .1 .0) in
     let more = silent .1 .1 .0 in
+    let step : SendStep d tray buf (d .head .turn) count (sentDesk d) (bytes ++ drop (length bytes) buf) =
     record {
-      step = subst (λ (x : Desk). StepOf d (processOf d) (broadcasts (processOf d .updates)) (processOf x)) (sym (changed-if rules d (sentDesk d) silent)) (sent-step d fits s own more);
+      turn-number = refl;
+      step = sent-step d fits s own more tray;
       sheet = bytes;
-      buffer = changed-if rules buf (bytes ++ drop (length bytes) buf) silent;
+      buffer = refl;
       is-good = sheet-sound d fits s own more;
-      numbers =
-          sheet-numbers d fits s own more
-          ∙ (λ i. record { entries = same .1 i; sender = d .head .own; desks = d .head .n; cells = d .head .m; turn = same .0 i });
+      numbers = sheet-numbers d fits s own more;
       carries = sheet-carries d fits s own more;
     }
+    in
+    subst (λ (x : Desk). SendSteps d tray buf x (sendOf d buf .lent) v) (sym (changed-if rules d (sentDesk d) silent))
+    (subst₂ (λ (b : List ℕ) (x : Value). SendSteps d tray buf (sentDesk d) b x) (sym (changed-if rules buf (bytes ++ drop (length bytes) buf) silent)) (carried-out .1)
+    (sends (d .head .turn) count step))

@@ -1,10 +1,10 @@
 -- A take that is carried out is Figure 1's apply_updates(), and then the end of a blocked read where its turn has come.
 -- Assumes nothing.
 use Prim.Native.Nat.{ℕ, _+_, _%_, _<_, _≤_}
-use mathlib.Core.Path.{_≡_, refl, sym, ap, _∙_, subst, subst₂}
+use mathlib.Core.Path.{_≡_, refl, sym, _∙_, fun-ext, subst, subst₂}
 use mathlib.Core.Bool.{Bool, true, false, cond, _&&_, false≢true}
 use mathlib.Core.List.{List, [], _∷_}
-use mathlib.Core.Option.{Option, none, some}
+use mathlib.Core.Option.{none, some}
 use native.Mathlib.Omega.{arith}
 use native.Mathlib.Nat.{mod-add-mod}
 use lib.Dec.{eqb}
@@ -15,23 +15,23 @@ use Rattle.answer.proofs.Laws.{answered-only-if, changed-if}
 use Rattle.content.specs.declared.Content.{Content}
 use Rattle.layout.specs.declared.Entry.{Entry}
 use Rattle.layout.specs.Layout.{trailerIn, numbersOf}
+use Rattle.layout.proofs.Laws.{entries-count}
 use Rattle.sheet.specs.Good.{good, every, rising, below, kindAndDay}
 use Rattle.sheet.proofs.Laws.Bools.{and-split}
 use Rattle.sheet.proofs.Laws.Good.{good-entries-are}
 use Rattle.cells.specs.Cells.{contentAt}
 use Rattle.sound.specs.Head.{causal, turnDesk, ownTurn, readWaits, waitCell}
 use Rattle.sound.proofs.Laws.Sound.{Sound, sound-says}
-use Rattle.tray.specs.Tray.{free, sheetAt, holdsGood, clearedIn}
+use Rattle.tray.specs.Tray.{start, free, sheetAt, holdsGood, clearedIn}
 use Rattle.tray.proofs.Laws.Places.{holds-says, holds-not-free, cleared-free, cleared-others, SamePlace, same-holds, same-sheet-held}
 use Rattle.applying.specs.Applying.{goes, wentOf}
 use Rattle.desk.specs.declared.Desk.{Desk}
-use Rattle.desk.specs.Answers.{taken}
+use Rattle.desk.specs.Answers.{Value, taken}
 use Rattle.desk.specs.Calls.{nextHead, isNext, takeRules, entriesTaken, takenDesk, waitedFor, takeOf}
 use Rattle.desk.proofs.Laws.Next.{next-says}
-use Rattle.figure.specs.Figure1.{Process, reads, finish, applies, apply}
+use Rattle.figure.specs.Figure1.{Process, without, reads, finish, applies, apply}
 use Rattle.figure.specs.Map.{processOf, updatesIn, updatesOf, received}
-use Rattle.figure.specs.Promises.{StepOf, Finishes, nothing-to-finish, finishes, TakeIsAStep}
-use Rattle.figure.proofs.Laws.Carried.{taken-same}
+use Rattle.figure.specs.Promises.{StepOf, Finishes, nothing-to-finish, finishes, TakeStep, TakeSteps, takes, TakeIsAStep}
 use Rattle.figure.proofs.Laws.Loops.{entries-loop}
 use Rattle.figure.proofs.Laws.Maps.{same-process}
 
@@ -59,31 +59,32 @@ module _ (d : Desk) (tray : List ℕ) (s : Sound (d .head) (d .kind) (d .day) (d
 -- ---- the process after the entries, and after the read that ends
 
 -- Figure 1's process between the two
-abbrev between : Desk → List Entry → Process Content
-between d es =
+abbrev between : Desk → List Entry → List ℕ → Process Content
+between d es tray =
     record {
       copy = contentAt (takenDesk d es .kind) (takenDesk d es .day);
       updates = updatesOf (d .pkind) (d .pday);
       turn = (turnDesk (d .head) + 1) % d .head .n;
-      blocked = processOf d .blocked;
+      blocked = processOf d tray .blocked;
+      buffer = without (turnDesk (d .head)) (received tray);
     }
 
-module _ (d : Desk) (es : List Entry) where
+module _ (d : Desk) (es : List Entry) (tray tray′ : List ℕ) (left : received tray′ ≡ without (turnDesk (d .head)) (received tray)) where
   next-turn : (turnDesk (d .head) + 1) % d .head .n ≡ turnDesk (nextHead (d .head) 0)
   next-turn = mod-add-mod (d .head .turn) (d .head .n) 1
 
-  pub then-finishes : Finishes d (between d es) (waitedFor (d .head) (takenDesk d es)) (processOf (takenDesk d es))
+  pub then-finishes : Finishes d (between d es tray) (waitedFor (d .head) (takenDesk d es)) (processOf (takenDesk d es) tray′)
   then-finishes = by-test (readWaits (d .head)) (ownTurn (nextHead (d .head) 0)) refl refl
     where
       by-test : (w o : Bool) → readWaits (d .head) ≡ w → ownTurn (nextHead (d .head) 0) ≡ o
-          → Finishes d (between d es) (waitedFor (d .head) (takenDesk d es)) (processOf (takenDesk d es))
+          → Finishes d (between d es tray) (waitedFor (d .head) (takenDesk d es)) (processOf (takenDesk d es) tray′)
       by-test false o p q =
           let quiet : cond (readWaits (d .head)) (some (waitCell (d .head))) none ≡ none = rw p in
-          rw p (nothing-to-finish (same-process refl refl (sym next-turn) quiet) (λ e. quiet))
+          rw p (nothing-to-finish (same-process refl refl (sym next-turn) quiet left) (λ e. quiet))
       by-test true false p q =
           let still : cond (readWaits (d .head)) (some (waitCell (d .head))) none ≡ some (waitCell (d .head)) = rw p in
           rw (p, q)
-          (nothing-to-finish (same-process refl refl (sym next-turn) still)
+          (nothing-to-finish (same-process refl refl (sym next-turn) still left)
           (λ e. absurd (eqb-false (turnDesk (nextHead (d .head) 0)) (d .head .own) q e)))
       by-test true true p q =
           let shown = contentAt (takenDesk d es .kind) (takenDesk d es .day) in
@@ -93,12 +94,13 @@ module _ (d : Desk) (es : List Entry) where
             updates = updatesOf (d .pkind) (d .pday);
             turn = (turnDesk (d .head) + 1) % d .head .n;
             blocked = some (waitCell (d .head));
+            buffer = without (turnDesk (d .head)) (received tray);
           }
           in
           rw (p, q)
           (finishes (waitCell (d .head)) (shown (waitCell (d .head))) refl
           (subst (StepOf d waiting (reads (waitCell (d .head)) (shown (waitCell (d .head)))))
-          (same-process refl refl next-turn refl)
+          (same-process refl refl next-turn refl (sym left))
           (finish waiting (waitCell (d .head)) refl (next-turn ∙ eqb-true _ _ q))))
 
 -- ---- the receiving buffer
@@ -118,6 +120,14 @@ received-stays t u p same = by-test (holdsGood t p) refl
     by-test true e = rw (e, sym (same-holds t u p same) ∙ e, same-sheet-held t u p same e)
     by-test false e = rw (e, sym (same-holds t u p same) ∙ e)
 
+-- what is left where one place was cleared
+pub given-up : (tray : List ℕ) (q : ℕ) → start q + 398 ≤ length tray → received (clearedIn tray q) ≡ without q (received tray)
+given-up tray q room = fun-ext (λ p. by-test p (eqb p q) refl)
+  where
+    by-test : (p : ℕ) (t : Bool) → eqb p q ≡ t → received (clearedIn tray q) p ≡ without q (received tray) p
+    by-test p true e = rw (e, eqb-true p q e) (free-holds-none (clearedIn tray q) q (cleared-free tray q room))
+    by-test p false e = rw e (received-stays (clearedIn tray q) tray p (cleared-others tray p q (eqb-false p q e)))
+
 -- ---- the step
 
 own-is-not : (a b : ℕ) → eqb a b ≡ false → b ≡ a → ⊥
@@ -125,32 +135,32 @@ own-is-not a b e z = eqb-false a b e (sym z)
 
 pub take-is-a-step : TakeIsAStep
 unfolding takeOf
-take-is-a-step d tray turn entries applied waited fits e =
+take-is-a-step d tray v fits e =
     let rules = takeRules d tray in
     let q = turnDesk (d .head) in
     let es = entriesTaken d tray in
     let went = wentOf (goes (causal (d .head)) (d .pkind)) es in
-    let carried-out = answered-only-if rules (taken (d .head .turn) (length es) went (waitedFor (d .head) (takenDesk d es))) (taken turn entries applied waited) e in
+    let carried-out = answered-only-if rules (taken (d .head .turn) (length es) went (waitedFor (d .head) (takenDesk d es))) v e in
     let silent : Silent rules = carried-out .0 in
-    let same = taken-same (d .head .turn) (length es) went (waitedFor (d .head) (takenDesk d es)) turn entries applied waited (carried-out .1) in
     let s = sound-says {h = d .head} {kind = d .kind} {day = d .day} {pkind = d .pkind} {pday = d .pday} (not-false _ (silent .0)) in
     let held = and-split (holdsGood tray q) (isNext (d .head) (numbersOf (trailerIn (sheetAt tray q)))) (not-false _ (silent .1 .1 .1 .1 .1 .0)) in
     let holds = holds-says tray q (held .0) in
-    let cells = next-says (d .head) (numbersOf (trailerIn (sheetAt tray q))) (held .1) .cells in
-    let loop = entries-loop d es (d .kind) (d .day) (fits .kinds) (fits .days) (taken-rise d tray s (holds .sheet-good) cells) (taken-below d tray s (holds .sheet-good) cells) in
+    let next = next-says (d .head) (numbersOf (trailerIn (sheetAt tray q))) (held .1) in
+    let loop = entries-loop d es (d .kind) (d .day) (fits .kinds) (fits .days) (taken-rise d tray s (holds .sheet-good) (next .cells)) (taken-below d tray s (holds .sheet-good) (next .cells)) in
     let elsewhere : d .head .own ≡ q → ⊥ = own-is-not q (d .head .own) (silent .1 .1 .0) in
-    let step : StepOf d (processOf d) (applies q (updatesIn es) (length es) went) (between d es) = apply (processOf d) q (updatesIn es) refl elsewhere loop in
+    let there : received tray q ≡ some (updatesIn es) = rw (held .0) in
+    let step : StepOf d (processOf d tray) (applies q (updatesIn es) (length es) went) (between d es tray) = apply (processOf d tray) q (updatesIn es) refl elsewhere there loop in
+    let left = given-up tray q (holds .room) in
+    let count = sym (entries-count (trailerIn (sheetAt tray q) .entries) (sheetAt tray q)) in
+    let took : TakeStep d tray (d .head .turn) (length es) went (waitedFor (d .head) (takenDesk d es)) (takenDesk d es) (clearedIn tray q) =
     record {
-      turn-number = sym (same .turn);
-      updates = updatesIn es;
-      buffered = rw (held .0);
-      between = between d es;
-      step = subst₂ (λ (k j : ℕ). StepOf d (processOf d) (applies q (updatesIn es) k j) (between d es)) (same .entries) (same .applied) step;
-      then =
-          subst₂ (λ (w : Option Content) (after : Desk). Finishes d (between d es) w (processOf after)) (same .waited)
-          (sym (changed-if rules d (takenDesk d es) silent)) (then-finishes d es);
-      given-up = ap (λ (t : List ℕ). received t q) (changed-if rules tray (clearedIn tray q) silent) ∙ free-holds-none (clearedIn tray q) q (cleared-free tray q (holds .room));
-      others = λ p other.
-          ap (λ (t : List ℕ). received t p) (changed-if rules tray (clearedIn tray q) silent)
-          ∙ received-stays (clearedIn tray q) tray p (cleared-others tray p q other);
+      turn-number = refl;
+      numbers = λ i. record { entries = count i; sender = next .sender i; desks = next .desks i; cells = next .cells i; turn = next .turn i };
+      between = between d es tray;
+      step = step;
+      then = then-finishes d es tray (clearedIn tray q) left;
     }
+    in
+    subst (λ (x : Desk). TakeSteps d tray x (takeOf d tray .lent) v) (sym (changed-if rules d (takenDesk d es) silent))
+    (subst₂ (λ (t : List ℕ) (x : Value). TakeSteps d tray (takenDesk d es) t x) (sym (changed-if rules tray (clearedIn tray q) silent)) (carried-out .1)
+    (takes (d .head .turn) (length es) went (waitedFor (d .head) (takenDesk d es)) took))
