@@ -3,11 +3,19 @@
 use mathlib.Core.Path.{refl}
 use Rattle.calendar.specs.Spans.{before}
 use Rattle.calendar.specs.Calendar.{lengthIn, yearLength, isDate, daysTo, numberOf, dayNumberOf}
-use Rattle.layout.specs.Layout.{sheetFor}
+use Rattle.laying.specs.Laying.{laidOver}
 use Rattle.sheet.specs.Good.{good}
-use Rattle.writer.specs.Writing.{writtenOf, bufferOf}
-use Rattle.examples.specs.Examples.{written, cases, ExamplesHold}
+use Rattle.cells.specs.Cells.{placeAt, each, some, putIf}
+use Rattle.sound.specs.Sound.{soundOf}
+use Rattle.tray.specs.Tray.{holdsGood, heldIn, clearedIn}
+use Rattle.pending.specs.Pending.{pendingBelow, sheetOf}
+use Rattle.applying.specs.Applying.{laid, wentOf}
+use Rattle.desk.specs.Calls.{openOf, writeOf, mustWait, readOf, sendOf, deliverOf, takeOf}
+use Rattle.examples.specs.Examples.{opened, wrote, sends, delivers, takes, sentBy, cellAfter, takesNine, ofThree, deliveredAt4, cases, ExamplesHold}
 
 pub examples-hold : ExamplesHold
-unfolding cases written writtenOf bufferOf good sheetFor before lengthIn yearLength isDate daysTo numberOf dayNumberOf
+unfolding cases opened wrote sends delivers takes sentBy cellAfter takesNine ofThree deliveredAt4
+    openOf writeOf mustWait readOf sendOf deliverOf takeOf
+    soundOf placeAt each some putIf sheetOf pendingBelow laid wentOf holdsGood heldIn clearedIn laidOver good
+    before lengthIn yearLength isDate daysTo numberOf dayNumberOf
 examples-hold = refl

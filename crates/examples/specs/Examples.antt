@@ -1,27 +1,34 @@
 -- 01, "Examples at the edges": "(P) marks those for the proved table": one list of cases and one statement over it, proved in
--- proofs/Examples.antt. Here stand examples 1, 2, 3, 7 and 8; 4, 5 and 6 are a desk's and join the list with it.
+-- proofs/Examples.antt. Examples 1, 2, 4, 5 and 6 are made by a desk's calls (crates/desk/specs/Calls.antt), one after the other.
 -- Assumes nothing.
 use mathlib.Core.Path.{_≡_}
 use mathlib.Core.List.{List, [], _∷_, map}
-use Prim.Native.Nat.{ℕ}
+use mathlib.Core.Option.{none}
+use Prim.Native.Nat.{ℕ, _*_}
 use lib.IntN.{ℤ, pos, negsuc}
-use lib.ListN.{length, drop, replicate}
-use Rattle.answer.specs.Answer.{Answer, answered}
+use lib.ListN.{drop, replicate}
+use Rattle.answer.specs.Answer.{Answer, refused, answered}
+use Rattle.content.specs.declared.Content.{Content}
 use Rattle.content.specs.declared.Content.the-variants.{Blank, Day}
 use Rattle.content.specs.Standing.{Stands, unknown, left, standingOn}
 use Rattle.calendar.specs.declared.Date.{Date}
 use Rattle.calendar.specs.Calendar.{dayNumberOf}
-use Rattle.layout.specs.declared.Entry.{Entry}
-use Rattle.layout.specs.declared.Numbers.{Numbers}
 use Rattle.layout.specs.Layout.{entryFor, entryBytes}
-use Rattle.writer.specs.Writing.{writtenOf, bufferOf}
+use Rattle.cells.specs.Cells.{contentAt}
+use Rattle.desk.specs.declared.Desk.{Desk}
+use Rattle.desk.specs.Answers.{Done, holds, sent, held, taken}
+use Rattle.desk.specs.Answers as desk
+use Rattle.desk.specs.Calls.{openOf, writeOf, readOf, sendOf, deliverOf, takeOf, blankDesk}
 
--- what the examples speak of: bytes, the answer of a writing with the buffer after it, a standing, a day
+-- what the examples speak of: bytes; a standing; a day; a call's answer, alone, with the buffer after it, or with what a cell then holds
+-- on the shelf and as a pending entry
 pub data Value : Type 0 where
   bytes : List ℕ → Value
-  sheet : Answer ℕ → List ℕ → Value
   standing : Stands → Value
   day : Answer ℤ → Value
+  call : Answer desk.Value → Value
+  sheet : Answer desk.Value → List ℕ → Value
+  cell : Answer desk.Value → (shelf pending : Content) → Value
 
 -- an example: its number in 01, what the definitions make, and what 01 says
 pub record Case : Type 0 where
@@ -29,34 +36,83 @@ pub record Case : Type 0 where
   pub made : Value
   pub says : Value
 
--- "Desk 0 of 2, 2 cells, .. at turn 0", with so many entries
-abbrev pub atTurn0 : ℕ → Numbers
-atTurn0 n = record { entries = n; sender = 0; desks = 2; cells = 2; turn = 0 }
+-- ---- calls in a row
 
--- its sheet with these entries, written into a buffer of so many sevens
-unfoldable pub written : List Entry → ℕ → Value
-written es room =
-    sheet (writtenOf (atTurn0 (length es)) es (replicate room 7)) (bufferOf (atTurn0 (length es)) es (replicate room 7))
+-- desk `own` of n desks, m cells, opened in a mode: 0 the default, 1 sequential, 2 causal, 3 cache
+unfoldable pub opened : (n m own mode : ℕ) → Desk
+opened n m own mode = openOf n m own mode .desk
+
+-- the desk after a write
+unfoldable pub wrote : Desk → ℕ → Content → Desk
+wrote d i c = writeOf d i c .desk
+
+-- a send into a buffer of so many sevens
+unfoldable pub sends : Desk → ℕ → Done
+sends d room = sendOf d (replicate room 7)
+
+-- a sheet delivered into a tray of zeros; and then taken
+unfoldable pub delivers : Desk → List ℕ → Done
+delivers d s = deliverOf d (replicate (398 * d .head .n) 0) s
+
+unfoldable pub takes : Desk → List ℕ → Done
+takes d s = let done = delivers d s in takeOf (done .desk) (done .lent)
+
+-- ---- what the examples look at
+
+unfoldable pub sentBy : Done → Value
+sentBy done = sheet (done .answer) (done .lent)
+
+unfoldable pub cellAfter : ℕ → Done → Value
+cellAfter i done =
+    let d = done .desk in
+    cell (done .answer) (contentAt (d .kind) (d .day) i) (contentAt (d .pkind) (d .pday) i)
+
+-- example 4, in a mode: desk 1 of 2, 2 cells, has day 5 pending in cell 0, and takes desk 0's sheet with day 9 in that cell
+unfoldable pub takesNine : ℕ → Done
+takesNine mode =
+    let nine = sends (wrote (opened 2 2 0 mode) 0 (Day (pos 9))) 18 .lent in
+    takes (wrote (opened 2 2 1 mode) 0 (Day (pos 5))) nine
+
+-- example 6: desk `own` of 3, 1 cell, sequential, blank, at a turn number
+unfoldable pub ofThree : (own turn : ℕ) → Desk
+ofThree own turn = blankDesk (record { n = 3; m = 1; own = own; mode = 1; turn = turn; wait = 0 })
+
+-- desk 1 at turn number 4 is delivered desk 0's sheet of this turn number
+unfoldable pub deliveredAt4 : ℕ → Value
+deliveredAt4 turn = call (delivers (ofThree 1 4) (sends (ofThree 0 turn) 12 .lent) .answer)
 
 abbrev pub dateOf2000 : ℕ → ℕ → Date
 dateOf2000 m d = record { year = 2000; month = m; day = d }
 
+-- ---- the table
+
 unfoldable pub cases : List Case
 cases =
-    -- "Desk 0 of 2, 2 cells, sends day 0 in cell 1 at turn 0: `01 02 00 00 00 00 06 00 01 00 02 02 00 00 00 00 00 00`."
+    -- "Desk 0 of 2, 2 cells, sends day 0 in cell 1 at turn 0: `01 02 00 00 00 00 06 00 01 00 02 02 00 00 00 00 00 00`." (In the default mode.)
     record {
       example = 1;
-      made = written (entryFor 1 (Day (pos 0)) ∷ []) 18;
-      says = sheet (answered 18) (0x01 ∷ 0x02 ∷ 0x00 ∷ 0x00 ∷ 0x00 ∷ 0x00 ∷ 0x06 ∷ 0x00 ∷ 0x01 ∷ 0x00 ∷ 0x02 ∷ 0x02 ∷ 0x00 ∷ 0x00 ∷ 0x00 ∷ 0x00 ∷ 0x00 ∷ 0x00 ∷ []);
+      made = sentBy (sends (wrote (opened 2 2 0 0) 1 (Day (pos 0))) 18);
+      says = sheet (answered (sent 0 1)) (0x01 ∷ 0x02 ∷ 0x00 ∷ 0x00 ∷ 0x00 ∷ 0x00 ∷ 0x06 ∷ 0x00 ∷ 0x01 ∷ 0x00 ∷ 0x02 ∷ 0x02 ∷ 0x00 ∷ 0x00 ∷ 0x00 ∷ 0x00 ∷ 0x00 ∷ 0x00 ∷ []);
     }
     -- "Nothing pending there: `00 00 00 00 02 02 00 00 00 00 00 00`."
     ∷ record {
       example = 2;
-      made = written [] 12;
-      says = sheet (answered 12) (0x00 ∷ 0x00 ∷ 0x00 ∷ 0x00 ∷ 0x02 ∷ 0x02 ∷ 0x00 ∷ 0x00 ∷ 0x00 ∷ 0x00 ∷ 0x00 ∷ 0x00 ∷ []);
+      made = sentBy (sends (opened 2 2 0 0) 12);
+      says = sheet (answered (sent 0 0)) (0x00 ∷ 0x00 ∷ 0x00 ∷ 0x00 ∷ 0x02 ∷ 0x02 ∷ 0x00 ∷ 0x00 ∷ 0x00 ∷ 0x00 ∷ 0x00 ∷ 0x00 ∷ []);
     }
     -- "Day -1 is `FF FF FF FF`."
     ∷ record { example = 3; made = bytes (drop 2 (entryBytes (entryFor 1 (Day (negsuc 0))))); says = bytes (0xFF ∷ 0xFF ∷ 0xFF ∷ 0xFF ∷ []) }
+    -- "Causal, pending day 5, taken day 9 in that cell: shelf 9, pending 5."
+    ∷ record { example = 4; made = cellAfter 0 (takesNine 2); says = cell (answered (taken 0 1 1 none)) (Day (pos 9)) (Day (pos 5)) }
+    -- "Sequential or cache: both 5."
+    ∷ record { example = 4; made = cellAfter 0 (takesNine 1); says = cell (answered (taken 0 1 0 none)) (Day (pos 5)) (Day (pos 5)) }
+    ∷ record { example = 4; made = cellAfter 0 (takesNine 3); says = cell (answered (taken 0 1 0 none)) (Day (pos 5)) (Day (pos 5)) }
+    -- "One desk, sequential, another cell pending: a read answers at once, the turn is always its own."
+    ∷ record { example = 5; made = call (readOf (wrote (opened 1 2 0 1) 0 (Day (pos 5))) 1 .answer); says = call (answered (holds Blank)) }
+    -- "n = 3, turn number 4: from desk 0 only number 6 may be delivered; 3 gets 16, 9 gets 17."
+    ∷ record { example = 6; made = deliveredAt4 6; says = call (answered held) }
+    ∷ record { example = 6; made = deliveredAt4 3; says = call (refused 16) }
+    ∷ record { example = 6; made = deliveredAt4 9; says = call (refused 17) }
     -- "Standing of day 0 on day 0 is 0 left; on day 1 it is -1; of blank, unknown."
     ∷ record { example = 7; made = standing (standingOn (Day (pos 0)) (pos 0)); says = standing (left (pos 0)) }
     ∷ record { example = 7; made = standing (standingOn (Day (pos 0)) (pos 1)); says = standing (left (negsuc 0)) }

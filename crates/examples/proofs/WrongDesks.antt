@@ -1,0 +1,305 @@
+-- The wrong desks of document 01 are shut out, and its slips ruled out (specs/WrongDesks.antt): the runs by computing the definitions, the
+-- rest because no rule of a call applies where it is answered.
+-- Assumes nothing.
+use mathlib.Core.Path.{_≡_, refl, sym, ap, _∙_}
+use mathlib.Core.Bool.{Bool, true, false, cond, not, _&&_, _||_, false≢true}
+use mathlib.Core.List.{List, [], _∷_, _++_}
+use mathlib.Core.Option.{Option, none, some}
+use Prim.Native.Nat.{ℕ, zero, suc, _≤_, _<_}
+use native.Mathlib.Omega.{arith}
+use lib.IntN.{ℤ, pos}
+use lib.ListN.{length, drop, replicate}
+use borrow.Author.Tests.{eqb-true, eqb-false, ne-eqb, le-ltb, not-false, not-true}
+use Rattle.answer.specs.Answer.{answered}
+use Rattle.answer.specs.Promises.{Silent}
+use Rattle.answer.proofs.Laws.{refused-is-not-answered, answered-only-if, answered-if, changed-if}
+use Rattle.content.specs.declared.Content.{Content}
+use Rattle.content.specs.declared.Content.the-variants.{Blank, Open, Day}
+use Rattle.layout.specs.declared.Entry.{Entry}
+use Rattle.layout.specs.Layout.{sheetBytes, trailerFor}
+use Rattle.laying.specs.Laying.{laidOver}
+use Rattle.sheet.specs.Good.{good}
+use Rattle.cells.specs.Cells.{placeAt, kindAt, contentAt, blank, filled, each, putIf}
+use Rattle.cells.specs.Cells as cells
+use Rattle.sound.specs.Head.{sequential, causal, ownTurn, readWaits, waitCell}
+use Rattle.sound.specs.Sound.{soundOf}
+use Rattle.sound.proofs.Laws.Sound.{sound-says}
+use Rattle.tray.specs.Tray.{holdsGood, heldIn, clearedIn}
+use Rattle.pending.specs.Pending.{pendingBelow, pendingEntries, numbersFor, sheetOf}
+use Rattle.applying.specs.Applying.{goes, laid, wentOf}
+use Rattle.applying.proofs.Laws.{went-within}
+use Rattle.desk.specs.declared.Desk.{Desk}
+use Rattle.desk.specs.Answers.{Value, Done, opened, stored, holds, waits, sent, held, taken}
+use Rattle.desk.specs.Calls.{sound, lastTurn, nextHead, readEnds, entriesTaken, takenDesk, waitedFor, sentDesk, readRules, sendRules, takeRules, mustWait, openOf, writeOf, readOf, sendOf, deliverOf, takeOf}
+use Rattle.examples.specs.Examples.{wrote, sends, delivers, takes, takesNine}
+use Rattle.examples.specs.Examples as desks
+use Rattle.examples.specs.WrongDesks.{Refuses, NotAllRefused, NotAllBlank, NotAllUnchanged, sheet0, sheet1, bothHeld, firstTake, secondTake, SecondTakeIsTrue, Counts, oneOfTwo, WrongDesksShutOut, shelfAfter, EmptySheetSent, ReadEnded, SlipsRuledOut}
+
+-- ---- the runs, all by computing
+
+-- one desk alone, 1 cell, and the same after it wrote day 0
+alone : Desk
+alone = desks.opened 1 1 0 0
+
+withDay0 : Desk
+withDay0 = wrote alone 0 (Day (pos 0))
+
+-- two desks, 2 cells, sequential: desk 1 has cell 0 pending, reads cell 1 and waits, and is delivered desk 0's sheet with day 9 in cell 1
+asking : Desk
+asking = wrote (desks.opened 2 2 1 1) 0 (Day (pos 5))
+
+waiting : Desk
+waiting = readOf asking 1 .desk
+
+nine : List ℕ
+nine = sends (wrote (desks.opened 2 2 0 1) 1 (Day (pos 9))) 18 .lent
+
+tray : List ℕ
+tray = delivers waiting nine .lent
+
+record Runs : Type 0 where
+  opens : openOf 1 1 0 0 .answer ≡ answered opened
+  writes : writeOf alone 0 (Day (pos 0)) .answer ≡ answered stored
+  writes-kind : (kindAt (alone .kind) 0 ≡ 0) × (kindAt (writeOf alone 0 (Day (pos 0)) .desk .kind) 0 ≡ 2)
+  reads : readOf withDay0 0 .answer ≡ answered (holds (Day (pos 0)))
+  reads-wait : (asking .head .wait ≡ 0) × (readOf asking 1 .desk .head .wait ≡ 2)
+  sends-empty : sendOf alone (replicate 12 7) .answer ≡ answered (sent 0 0)
+  sends-turn : (alone .head .turn ≡ 0) × (sendOf alone (replicate 12 7) .desk .head .turn ≡ 1)
+  delivers-nine : deliverOf waiting (replicate 796 0) nine .answer ≡ answered held
+  takes-nine : takeOf waiting tray .answer ≡ answered (taken 0 1 1 (some (Day (pos 9))))
+  takes-turn : (waiting .head .turn ≡ 0) × (takeOf waiting tray .desk .head .turn ≡ 1)
+  first : firstTake .answer ≡ answered (taken 0 1 1 none)
+  first-cells : (shelfAfter firstTake 0 ≡ Day (pos 9)) × (shelfAfter firstTake 1 ≡ Blank)
+  second : secondTake .answer ≡ answered (taken 1 1 1 none)
+  second-cells : (shelfAfter secondTake 0 ≡ Day (pos 9)) × (shelfAfter secondTake 1 ≡ Day (pos 8))
+  kinds : (kindAt (firstTake .desk .kind) 1 ≡ 0) × (kindAt (secondTake .desk .kind) 1 ≡ 2)
+  one-of-two : oneOfTwo .answer ≡ answered (taken 0 2 1 none)
+  five-is-sent : sends (takesNine 2 .desk) 18 .answer ≡ answered (sent 1 1)
+  five-in-sheet :
+      sends (takesNine 2 .desk) 18 .lent
+      ≡ 0x00 ∷ 0x02 ∷ 0x05 ∷ 0x00 ∷ 0x00 ∷ 0x00 ∷ 0x06 ∷ 0x00 ∷ 0x01 ∷ 0x01 ∷ 0x02 ∷ 0x02 ∷ 0x00 ∷ 0x00 ∷ 0x01 ∷ 0x00 ∷ 0x00 ∷ 0x00 ∷ []
+
+runs : Runs
+unfolding alone withDay0 asking waiting nine tray sheet0 sheet1 bothHeld firstTake secondTake oneOfTwo
+    desks.opened wrote sends delivers takes takesNine
+    openOf writeOf mustWait readOf sendOf deliverOf takeOf
+    soundOf placeAt each cells.some putIf sheetOf pendingBelow laid wentOf holdsGood heldIn clearedIn laidOver good
+runs =
+    record {
+      opens = refl;
+      writes = refl;
+      writes-kind = (refl, refl);
+      reads = refl;
+      reads-wait = (refl, refl);
+      sends-empty = refl;
+      sends-turn = (refl, refl);
+      delivers-nine = refl;
+      takes-nine = refl;
+      takes-turn = (refl, refl);
+      first = refl;
+      first-cells = (refl, refl);
+      second = refl;
+      second-cells = (refl, refl);
+      kinds = (refl, refl);
+      one-of-two = refl;
+      five-is-sent = refl;
+      five-in-sheet = refl;
+    }
+
+-- ---- the five wrong desks
+
+not-refused : (done : Done) (v : Value) → done .answer ≡ answered v → Refuses done → ⊥
+not-refused done v e r = refused-is-not-answered (r .number) v (sym (r .answers) ∙ e)
+
+not-all-refused : NotAllRefused
+not-all-refused =
+    record {
+      opens = λ all. not-refused _ opened (runs .opens) (all 1 1 0 0);
+      writes = λ all. not-refused _ stored (runs .writes) (all alone 0 (Day (pos 0)));
+      reads = λ all. not-refused _ (holds (Day (pos 0))) (runs .reads) (all withDay0 0);
+      sends = λ all. not-refused _ (sent 0 0) (runs .sends-empty) (all alone (replicate 12 7));
+      delivers = λ all. not-refused _ held (runs .delivers-nine) (all waiting (replicate 796 0) nine);
+      takes = λ all. not-refused _ (taken 0 1 1 (some (Day (pos 9)))) (runs .takes-nine) (all waiting tray);
+    }
+
+no-day-is-blank : (z : ℤ) → Day z ≡ Blank → ⊥
+no-day-is-blank z e = let n : _≡_ {A = ℕ} 0 1 = cc in omega arith
+
+not-all-blank : NotAllBlank
+not-all-blank =
+    record {
+      reads = λ all. no-day-is-blank (pos 0) (all withDay0 0 (Day (pos 0)) (runs .reads));
+      waited = λ all. no-day-is-blank (pos 9) (all waiting tray 0 1 1 (Day (pos 9)) (runs .takes-nine));
+    }
+
+-- a number of the record that grew
+grew : (f : Desk → ℕ) (before after : Desk) (a b : ℕ) → (f before ≡ a) × (f after ≡ b) → a < b → after ≡ before → ⊥
+grew f before after a b is less same = let e : b ≡ a = sym (is .1) ∙ ap f same ∙ is .0 in omega arith
+
+not-all-unchanged : NotAllUnchanged
+not-all-unchanged =
+    record {
+      writes = λ all. grew (λ d. kindAt (d .kind) 0) alone _ 0 2 (runs .writes-kind) (omega arith) (all alone 0 (Day (pos 0)));
+      reads = λ all. grew (λ d. d .head .wait) asking _ 0 2 (runs .reads-wait) (omega arith) (all asking 1);
+      sends = λ all. grew (λ d. d .head .turn) alone _ 0 1 (runs .sends-turn) (omega arith) (all alone (replicate 12 7));
+      takes = λ all. grew (λ d. d .head .turn) waiting _ 0 1 (runs .takes-turn) (omega arith) (all waiting tray);
+    }
+
+second-take-is-true : SecondTakeIsTrue
+second-take-is-true =
+    record {
+      first = runs .first;
+      first-cell0 = runs .first-cells .0;
+      first-cell1 = runs .first-cells .1;
+      second = runs .second;
+      second-cell0 = runs .second-cells .0;
+      second-cell1 = runs .second-cells .1;
+      moves-more = λ same. let e : _≡_ {A = ℕ} 2 0 = sym (runs .kinds .1) ∙ ap (λ (l : List ℕ). kindAt l 1) same ∙ runs .kinds .0 in omega arith;
+    }
+
+same-taken : (t t′ n n′ k k′ : ℕ) (w w′ : Option Content) → taken t n k w ≡ taken t′ n′ k′ w′
+    → (t′ ≡ t) × ((n′ ≡ n) × ((k′ ≡ k) × (w′ ≡ w)))
+same-taken t t′ n n′ k k′ w w′ e = ((cc), ((cc), ((cc), (cc))))
+
+module _ (d : Desk) (tray : List ℕ) (t n k : ℕ) (w : Option Content) (e : takeOf d tray .answer ≡ answered (taken t n k w)) where
+  went : ℕ
+  went = wentOf (goes (causal (d .head)) (d .pkind)) (entriesTaken d tray)
+
+  taken-as-said : Silent (takeRules d tray) × (taken (d .head .turn) (length (entriesTaken d tray)) went (waitedFor (d .head) (takenDesk d (entriesTaken d tray))) ≡ taken t n k w)
+  unfolding takeOf went
+  taken-as-said = answered-only-if (takeRules d tray) _ (taken t n k w) e
+
+  counts : Counts d tray t n k
+  unfolding went
+  counts =
+      let same = same-taken _ t _ n _ k _ w (taken-as-said .1) in
+      record {
+        turn = same .0;
+        entries = same .1 .0;
+        applied = same .1 .1 .0;
+        no-more = omega (arith, same .1 .0, same .1 .1 .0, went-within (goes (causal (d .head)) (d .pkind)) (entriesTaken d tray));
+      }
+
+pub wrong-desks-shut-out : WrongDesksShutOut
+wrong-desks-shut-out =
+    record {
+      refuses-everything = not-all-refused;
+      answers-blank = not-all-blank;
+      keeps-its-record = not-all-unchanged;
+      only-first-take-true = second-take-is-true;
+      invented-counts = record { always = counts; one-of-two = runs .one-of-two };
+    }
+
+-- ---- the five slips
+
+-- an empty sheet, where nothing is pending
+none-pending : (pkind : List ℕ) (pday : List ℤ) (n : ℕ) → cells.some n (filled pkind) ≡ false → pendingBelow pkind pday n ≡ []
+unfolding cells.some pendingBelow
+none-pending pkind pday zero e = refl
+none-pending pkind pday (suc n) e =
+    let both = neither (cells.some n (filled pkind)) (filled pkind n) e in
+    rw (none-pending pkind pday n (both .0), both .1)
+  where
+    neither : (a b : Bool) → a || b ≡ false → (a ≡ false) × (b ≡ false)
+    neither true b q = absurd (false≢true (sym q))
+    neither false b q = (refl, q)
+
+module _ (d : Desk) (buf : List ℕ) (s : sound d ≡ true) (own : ownTurn (d .head) ≡ true) (more : d .head .turn < lastTurn) (room : 12 ≤ length buf)
+    (nothing : cells.some 64 (filled (d .pkind)) ≡ false) where
+  no-entries : pendingEntries (d .pkind) (d .pday) ≡ []
+  no-entries = none-pending (d .pkind) (d .pday) 64 nothing
+
+  empty-sheet : sheetOf (d .head) (d .pkind) (d .pday) ≡ sheetBytes [] (trailerFor (numbersFor (d .head) 0))
+  unfolding sheetOf
+  empty-sheet = ap (λ (es : List Entry). sheetBytes es (trailerFor (numbersFor (d .head) (length es)))) no-entries
+
+  no-refusal : Silent (sendRules d buf)
+  no-refusal = (
+    ap not s,
+    (
+      ap not own,
+      (
+        ne-eqb (d .head .turn) lastTurn (omega arith),
+        (rw empty-sheet (le-ltb (length buf) 12 room), tt),
+      ),
+    ),
+  )
+
+  empty-sheet-sent : EmptySheetSent d buf
+  unfolding sendOf
+  empty-sheet-sent =
+      record {
+        answers =
+            answered-if (sendRules d buf) _ no-refusal
+            ∙ ap (λ (es : List Entry). answered (sent (d .head .turn) (length es))) no-entries;
+        sheet =
+            changed-if (sendRules d buf) buf _ no-refusal
+            ∙ ap (λ (l : List ℕ). l ++ drop (length l) buf) empty-sheet;
+        turn = ap (λ (after : Desk). after .head .turn) (changed-if (sendRules d buf) d (sentDesk d) no-refusal);
+      }
+
+-- what an answered read says
+waits-is-no-content : (c : Content) → waits ≡ holds c → ⊥
+waits-is-no-content c e = let n : _≡_ {A = ℕ} 0 1 = cc in omega arith
+
+same-content : (c c′ : Content) → holds c ≡ holds c′ → c ≡ c′
+same-content c c′ e = cc
+
+module _ (d : Desk) (i : ℕ) where
+  read-as-said : (v : Value) → readOf d i .answer ≡ answered v → cond (mustWait d i) waits (holds (contentAt (d .kind) (d .day) i)) ≡ v
+  unfolding readOf
+  read-as-said v e = answered-only-if (readRules d i) _ v e .1
+
+  pending-answers : filled (d .pkind) i ≡ true → mustWait d i ≡ false
+  unfolding mustWait
+  pending-answers f = rw (not-true (blank (d .pkind) i) f) (shut (sequential (d .head) && cells.some 64 (filled (d .pkind))) (not (ownTurn (d .head))))
+    where
+      shut : (a b : Bool) → a && false && b ≡ false
+      shut true b = refl
+      shut false b = refl
+
+  pending-cell-answers : filled (d .pkind) i ≡ true → readOf d i .answer ≡ answered waits → ⊥
+  pending-cell-answers f e = waits-is-no-content _ (sym (rw (pending-answers f) at (read-as-said waits e)))
+
+  kind-1-is-open : (c : Content) → kindAt (d .kind) i ≡ 1 → readOf d i .answer ≡ answered (holds c) → c ≡ Open
+  kind-1-is-open c one e = by-test (mustWait d i) refl
+    where
+      by-test : (t : Bool) → mustWait d i ≡ t → c ≡ Open
+      by-test true p = absurd (waits-is-no-content c (rw p at (read-as-said (holds c) e)))
+      by-test false p = sym (same-content (contentAt (d .kind) (d .day) i) c (rw p at (read-as-said (holds c) e))) ∙ rw one
+
+-- a waiting read has the turn elsewhere, and a send its own
+no-send-while-waiting : (d : Desk) (buf : List ℕ) (v : Value) → readWaits (d .head) ≡ true → sendOf d buf .answer ≡ answered v → ⊥
+unfolding sendOf
+no-send-while-waiting d buf v w e =
+    let silent = answered-only-if (sendRules d buf) _ v e .0 in
+    let s = sound-says {h = d .head} {kind = d .kind} {day = d .day} {pkind = d .pkind} {pday = d .pday} (not-false _ (silent .0)) in
+    s .waits (eqb-false (d .head .wait) 0 (not-true _ w)) .elsewhere (eqb-true _ _ (not-false _ (silent .1 .0)))
+
+module _ (d : Desk) (tray : List ℕ) (t n k : ℕ) (w : Option Content) (waiting : readWaits (d .head) ≡ true) (own : ownTurn (nextHead (d .head) 0) ≡ true)
+    (e : takeOf d tray .answer ≡ answered (taken t n k w)) where
+  wait-ends-with-turn : ReadEnded d tray w
+  unfolding takeOf
+  wait-ends-with-turn =
+      let said = taken-as-said d tray t n k w e in
+      let same = same-taken _ t _ n _ k _ w (said .1) in
+      let next = takenDesk d (entriesTaken d tray) in
+      let after = changed-if (takeRules d tray) d next (said .0) in
+      let ends : readEnds (d .head) ≡ true = rw (waiting, own) in
+      let given : waitedFor (d .head) next ≡ some (contentAt (next .kind) (next .day) (waitCell (d .head))) = rw ends in
+      record {
+        answers = same .1 .1 .1 ∙ given ∙ ap (λ (x : Desk). some (contentAt (x .kind) (x .day) (waitCell (d .head)))) (sym after);
+        over = ap (λ (x : Desk). readWaits (x .head)) after ∙ rw ends;
+      }
+
+pub slips-ruled-out : SlipsRuledOut
+slips-ruled-out =
+    record {
+      five-is-sent = runs .five-is-sent;
+      five-in-sheet = runs .five-in-sheet;
+      empty-sheet-sent = empty-sheet-sent;
+      pending-cell-answers = pending-cell-answers;
+      kind-1-is-open = kind-1-is-open;
+      no-send-while-waiting = no-send-while-waiting;
+      wait-ends-with-turn = wait-ends-with-turn;
+    }
