@@ -1,4 +1,5 @@
 pub mod Days
+pub mod Kinds
 pub mod Scans
 pub mod Clauses
 pub mod Sound

@@ -96,7 +96,10 @@ fn blank_from<'a>(m: u8, kind: &'a [u8; 64], pkind: &'a [u8; 64]) -> bool
 fn kinds_fit(causal: bool, kind: u8, pkind: u8) -> bool
     ensures { λ r. ⌜ r ≡ kindsFit causal kind pkind ⌝ }
 {
-    ((kind <= 2) & (pkind <= 2)) & ((pkind == 0) | ((kind != 0) & (causal | (pkind == kind))))
+    if causal {
+        return ((kind <= 2) & (pkind <= 2)) & ((pkind == 0) | (kind != 0));
+    }
+    (kind <= 2) & ((pkind == 0) | (pkind == kind))
 }
 
 fn all_kinds_fit<'a>(causal: bool, kind: &'a [u8; 64], pkind: &'a [u8; 64]) -> bool
