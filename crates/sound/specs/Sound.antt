@@ -46,8 +46,9 @@ waitSound h pkind =
     && some 64 (filled pkind)
     && not (ownTurn h)
 
--- the clauses, one to a line; before them, that each kind stands for a content (docs/DECISIONS.md, 24). "a cell's pending place is blank exactly if it is not pending" is what pending means here: a cell is
--- pending if its pending place is filled
+-- the clauses, one to a line; the second line, that each kind stands for a content, is behind 01's words "content" and "blank"
+-- (docs/DECISIONS.md, 24). "a cell's pending place is blank exactly if it is not pending" is what pending means here: a cell is pending if
+-- its pending place is filled
 unfoldable pub soundOf : Head → List ℕ → List ℤ → List ℕ → List ℤ → Bool
 soundOf h kind day pkind pday =
     limits h
