@@ -4,7 +4,7 @@
 -- Assumes nothing.
 use Prim.Native.Nat.{ℕ, _+_, _-_, _<_, _≤_}
 use mathlib.Core.Path.{_≡_, refl}
-use mathlib.Core.Bool.{Bool, true, false, not, _&&_}
+use mathlib.Core.Bool.{Bool, true, false, not, _&&_, and-true, and-false}
 use mathlib.Core.List.{List}
 use lib.Dec.{eqb}
 use lib.ListN.{length, take, drop, length-drop}
@@ -18,14 +18,6 @@ use Rattle.desk.specs.declared.Desk.{Desk}
 use Rattle.desk.specs.Calls.{mustWait}
 use Rattle.desk.specs.Parts.{waitsFor, waitAt}
 
-and-off : (a : Bool) → a && false ≡ false
-and-off true = refl
-and-off false = refl
-
-and-on : (a : Bool) → a && true ≡ a
-and-on true = refl
-and-on false = refl
-
 module _ (on : Bool) (h : Head) (pkind : List ℕ) (cell : ℕ) where
   pub waits-refused : not on ≡ true → false ≡ (on && waitsFor h pkind cell)
   waits-refused e = rw (not-true on e)
@@ -37,16 +29,16 @@ module _ (on : Bool) (h : Head) (pkind : List ℕ) (cell : ℕ) where
   module _ {kind : ℕ} (k : kind ≡ kindAt pkind cell) (e : not on ≡ false) (m : h .mode ≡ 1) where
     pub waits-pending : (kind ≡ 0 → ⊥) → false ≡ (on && waitsFor h pkind cell)
     unfolding waitsFor
-    waits-pending p = rw (not-false on e, ← k, ne-eqb kind 0 p, and-off (eqb (h .mode) 1 && some 64 (filled pkind)))
+    waits-pending p = rw (not-false on e, ← k, ne-eqb kind 0 p, and-false (eqb (h .mode) 1 && some 64 (filled pkind)))
 
     module _ {own : Bool} (o : own ≡ ownTurn h) (b : kind ≡ 0) where
       pub waits-own-turn : own ≡ true → false ≡ (on && waitsFor h pkind cell)
       unfolding waitsFor
-      waits-own-turn p = rw (not-false on e, ← o, p, and-off ((eqb (h .mode) 1 && some 64 (filled pkind)) && eqb (kindAt pkind cell) 0))
+      waits-own-turn p = rw (not-false on e, ← o, p, and-false ((eqb (h .mode) 1 && some 64 (filled pkind)) && eqb (kindAt pkind cell) 0))
 
       pub waits-if-any : {any : Bool} → any ≡ some 64 (filled pkind) → own ≡ false → any ≡ (on && waitsFor h pkind cell)
       unfolding waitsFor
-      waits-if-any a p = rw (not-false on e, ← o, p, eq-eqb (h .mode) 1 m, ← k, eq-eqb kind 0 b, and-on (some 64 (filled pkind)), and-on (some 64 (filled pkind))) a
+      waits-if-any a p = rw (not-false on e, ← o, p, eq-eqb (h .mode) 1 m, ← k, eq-eqb kind 0 b, and-true (some 64 (filled pkind)), and-true (some 64 (filled pkind))) a
 
 pub ruleset waitings = (waits-refused, waits-other-mode, waits-pending, waits-own-turn, waits-if-any)
 
