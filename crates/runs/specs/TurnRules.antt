@@ -1,0 +1,152 @@
+-- 00, demand 3, from "While no desk's turn number has reached its end" on: what is so after every run. `Demand3 document01` is proved in
+-- proofs/TurnRules.antt, for all three modes and any mix of them.
+-- Assumes nothing.
+use mathlib.Core.Path.{_≡_}
+use mathlib.Core.Logic.{_≢_, _⊎_}
+use mathlib.Core.Bool.{Bool, true, false, cond, _&&_}
+use mathlib.Core.List.{List, [], _∷_}
+use mathlib.Core.Option.{Option, some}
+use Prim.Native.Nat.{ℕ, _+_, _-_, _≤_, _<_}
+use lib.Dec.{eqb}
+use lib.ListN.{length}
+use Rattle.answer.specs.Answer.{Answer, refused, answered}
+use Rattle.content.specs.declared.Content.{Content}
+use Rattle.layout.specs.Layout.{trailerIn}
+use Rattle.cells.specs.Cells.{contentAt}
+use Rattle.sound.specs.Head.{turnDesk, ownTurn}
+use Rattle.tray.specs.Tray.{sheetAt}
+use Rattle.desk.specs.declared.Desk.{Desk}
+use Rattle.desk.specs.Answers.{Value, waits, sent, held, taken}
+use Rattle.desk.specs.Calls.{lastTurn}
+use Rattle.runs.specs.Calls.{Calls, Call, writes, reads, sends, delivers, takes}
+use Rattle.runs.specs.Run.{Shelf, Within, State, sheetNo, start, made, after, Possible, Run, later}
+
+-- ---- words of the demand
+
+-- what there is after these calls, made on a fresh shelf
+abbrev pub now : Calls → Shelf → List Call → State
+now calls shelf cs = later calls (start shelf) cs
+
+-- the turn number of desk p
+abbrev pub turnOf : State → ℕ → ℕ
+turnOf s p = s .desk p .head .turn
+
+-- "no desk's turn number has reached its end"
+abbrev pub BeforeTheEnd : ℕ → State → Type 0
+BeforeTheEnd n s = (p : ℕ) → p < n → turnOf s p < lastTurn
+
+-- desk p "has its own turn"
+abbrev pub HasTurn : State → ℕ → Type 0
+HasTurn s p = ownTurn (s .desk p .head) ≡ true
+
+-- one of these calls, made one after the other from s on, is such a call
+pub data OneOf (calls : Calls) (such : State → Call → Type 0) : State → List Call → Type 0 where
+  first : {s : State} {c : Call} {cs : List Call} → such s c → OneOf calls such s (c ∷ cs)
+  further : {s : State} {c : Call} {cs : List Call} → OneOf calls such (after calls s c) cs → OneOf calls such s (c ∷ cs)
+
+-- an accepted take of desk p that takes this sheet: those bytes are in the place of the desk whose turn it is
+pub data TakesSheet (calls : Calls) (p : ℕ) (sheet : List ℕ) (s : State) : Call → Type 0 where
+  takes-it : (v : Value)
+      → made calls s (takes p) .answer ≡ answered v
+      → sheetAt (s .tray p) (turnDesk (s .desk p .head)) ≡ sheet
+      → TakesSheet calls p sheet s (takes p)
+
+-- sheet k is "sent" when these calls have been made on a fresh shelf, and "untaken" by desk p: none of them took it there
+pub record Untaken (calls : Calls) (shelf : Shelf) (cs : List Call) (p k : ℕ) : Type 0 where
+  pub sent : k < length (now calls shelf cs .line)
+  pub untaken : OneOf calls (TakesSheet calls p (sheetNo (now calls shelf cs) k .bytes)) (start shelf) cs → ⊥
+
+-- desk p "can send into 396 bytes": whatever they are, the send is carried out with the desk's turn number
+abbrev pub CanSend : Calls → State → ℕ → Type 0
+CanSend calls s p =
+    (buffer : List ℕ) → length buffer ≡ 396 → (entries : ℕ) × (made calls s (sends p buffer) .answer ≡ answered (sent (turnOf s p) entries))
+
+-- a delivery of sheet k to desk p: it is held, or refused with 18 because it is there already
+pub data Arrives (calls : Calls) (s : State) (p k : ℕ) : Type 0 where
+  is-held : made calls s (delivers p k) .answer ≡ answered held → Arrives calls s p k
+  is-there : made calls s (delivers p k) .answer ≡ refused 18
+      → sheetAt (s .tray p) (sheetNo s k .from) ≡ sheetNo s k .bytes
+      → Arrives calls s p k
+
+-- desk p "can take its next sheet, one already sent, once delivered": sheet k is from the desk whose turn it is and has the desk's turn number;
+-- after a delivery of it the take is accepted, with that turn number
+pub record CanTake (calls : Calls) (s : State) (p : ℕ) : Type 0 where
+  pub k : ℕ
+  pub sent : k < length (s .line)
+  pub from : sheetNo s k .from ≡ turnDesk (s .desk p .head)
+  pub turn : trailerIn (sheetNo s k .bytes) .turn ≡ turnOf s p
+  pub arrives : Arrives calls s p k
+  pub entries : ℕ
+  pub applied : ℕ
+  pub waited : Option Content
+  pub accepted : made calls (after calls s (delivers p k)) (takes p) .answer ≡ answered (taken (turnOf s p) entries applied waited)
+
+-- how many of these calls are accepted takes of desk p
+abbrev pub takeOfDesk : ℕ → Call → Bool
+takeOfDesk p (writes q cell c) = false
+takeOfDesk p (reads q cell) = false
+takeOfDesk p (sends q buffer) = false
+takeOfDesk p (delivers q k) = false
+takeOfDesk p (takes q) = eqb q p
+
+abbrev pub accepted : Answer Value → Bool
+accepted (refused k) = false
+accepted (answered v) = true
+
+unfoldable pub takesBy : Calls → ℕ → State → List Call → ℕ
+takesBy calls p s [] = 0
+takesBy calls p s (c ∷ cs) = cond (takeOfDesk p c && accepted (made calls s c .answer)) 1 0 + takesBy calls p (after calls s c) cs
+
+-- an accepted take of desk p that answers the read of this cell: with what the shelf then has there
+pub data AnswersRead (calls : Calls) (p cell : ℕ) (s : State) : Call → Type 0 where
+  answers-it : (turn entries applied : ℕ) (c : Content)
+      → made calls s (takes p) .answer ≡ answered (taken turn entries applied (some c))
+      → (let d = after calls s (takes p) .desk p in c ≡ contentAt (d .kind) (d .day) cell)
+      → AnswersRead calls p cell s (takes p)
+
+-- ---- the demand
+
+-- Each part says what is so after these calls, made on a fresh shelf.
+
+-- 1. "at most one desk has its own turn"
+abbrev pub OneTurn : Calls → Shelf → List Call → Type 0
+OneTurn calls shelf cs =
+    (p q : ℕ) → p < shelf .n → q < shelf .n → HasTurn (now calls shelf cs) p → HasTurn (now calls shelf cs) q → p ≡ q
+
+-- 2. "a desk has at most one sent and untaken sheet from each other desk": of sheets j and k, both from desk q
+abbrev pub OneSheet : Calls → Shelf → List Call → Type 0
+OneSheet calls shelf cs =
+    (p q : ℕ) → p < shelf .n → q ≢ p → (j k : ℕ) → sheetNo (now calls shelf cs) j .from ≡ q → sheetNo (now calls shelf cs) k .from ≡ q
+    → Untaken calls shelf cs p j → Untaken calls shelf cs p k → j ≡ k
+
+-- 3. "refusal 17 never comes": whichever call is next
+abbrev pub No17 : Calls → Shelf → List Call → Type 0
+No17 calls shelf cs = (c : Call) → Possible (shelf .n) (now calls shelf cs) c → made calls (now calls shelf cs) c .answer ≢ refused 17
+
+-- 4. "While no desk's turn number has reached its end: .. some desk can send into 396 bytes, or can take its next sheet, one already sent, once
+-- delivered."
+abbrev pub GoesOn : Calls → Shelf → List Call → Type 0
+GoesOn calls shelf cs =
+    BeforeTheEnd (shelf .n) (now calls shelf cs)
+    → (p : ℕ) × (p < shelf .n) × (CanSend calls (now calls shelf cs) p ⊎ CanTake calls (now calls shelf cs) p)
+
+-- 5. "A read that waits is answered by its desk's accepted take number n-1 at the latest, counted from that read, for n desks.": of any further
+-- calls among which that desk has n-1 accepted takes, one is a take that answers it
+abbrev pub WaitEnds : Calls → Shelf → List Call → Type 0
+WaitEnds calls shelf cs =
+    (p cell : ℕ) → p < shelf .n → made calls (now calls shelf cs) (reads p cell) .answer ≡ answered waits
+    → (ds : List Call) → Run calls (shelf .n) (after calls (now calls shelf cs) (reads p cell)) ds
+    → takesBy calls p (after calls (now calls shelf cs) (reads p cell)) ds ≡ shelf .n - 1
+    → OneOf calls (AnswersRead calls p cell) (after calls (now calls shelf cs) (reads p cell)) ds
+
+-- The premise "While no desk's turn number has reached its end" is needed in the fourth part alone: the others are so from then on, too.
+pub record TurnRules (calls : Calls) (shelf : Shelf) (cs : List Call) : Type 0 where
+  pub one-turn : OneTurn calls shelf cs
+  pub one-sheet : OneSheet calls shelf cs
+  pub no-17 : No17 calls shelf cs
+  pub goes-on : GoesOn calls shelf cs
+  pub wait-ends : WaitEnds calls shelf cs
+
+-- "Open all desks of a shelf once, with clear trays. Then make any list of other calls, refused ones too"
+abbrev pub Demand3 : Calls → Type 0
+Demand3 calls = (shelf : Shelf) → Within shelf → (cs : List Call) → Run calls (shelf .n) (start shelf) cs → TurnRules calls shelf cs
