@@ -7,3 +7,4 @@ pub mod Send
 pub mod Deliver
 pub mod Take
 pub mod Numbers
+pub mod Sheets

@@ -22,9 +22,6 @@ use Rattle.content.specs.declared.Content.{Content}
 use Rattle.content.specs.Content.{contentOf}
 use Rattle.layout.specs.declared.Entry.{Entry}
 use Rattle.layout.specs.Layout.{contentIn, trailerIn, numbersOf}
-use Rattle.sheet.specs.Good.{good}
-use Rattle.sheet.specs.Reading.{Sheet, sheetIn}
-use Rattle.sheet.proofs.Laws.Reading.{good-read}
 use Rattle.cells.specs.Cells.{kindAt, dayAt, contentAt, filled}
 use Rattle.cells.proofs.Laws.{no-place}
 use Rattle.sound.specs.Head.{turnDesk, ownTurn, readWaits}
@@ -32,11 +29,11 @@ use Rattle.sound.specs.Sound.{dayFits}
 use Rattle.sound.proofs.Laws.Sound.{Sound, sound-says}
 use Rattle.sound.proofs.Laws.Days.{same-day}
 use Rattle.pending.specs.Pending.{entryIn, pendingBelow, pendingEntries, numbersFor, sheetOf}
-use Rattle.pending.proofs.Laws.Good.{FairPlaces, FairHead, sheet-is-good, sheet-reads-back}
 use Rattle.desk.specs.declared.Desk.{Desk}
 use Rattle.desk.specs.Answers.{Value, sent}
 use Rattle.desk.specs.Calls.{lastTurn, sendRules, sentDesk, sendOf}
 use Rattle.desk.specs.Values.{DeskFits}
+use Rattle.keeping.proofs.Laws.Sheets.{sheet-good, sheet-numbers, sheet-entries}
 use Rattle.figure.specs.Figure1.{broadcasts, send}
 use Rattle.figure.specs.Map.{processOf, updatesOf, updatesIn, carried}
 use Rattle.figure.specs.Promises.{StepOf, SendStep, SendSteps, sends, SendIsAStep}
@@ -122,51 +119,8 @@ module _ (d : Desk) (fits : DeskFits d) (s : Sound (d .head) (d .kind) (d .day) 
       by-test true p = rw p
       by-test false p = absurd (s .waits (eqb-false _ _ p) .elsewhere at-own)
 
-  fair-head : FairHead (d .head)
-  fair-head =
-      record {
-        desks-least = s .desks-least;
-        desks-most = s .desks-most;
-        cells-least = s .cells-least;
-        cells-most = s .cells-most;
-        own-below = s .own-below;
-        turn-most = let other : d .head .turn ≡ 4294967295 → ⊥ = eqb-false (d .head .turn) lastTurn more in omega (arith, fits .turn, other);
-        turn-is-own = at-own;
-      }
-
-  open-day : (kind : ℕ) (day : ℤ) → dayFits kind day ≡ true → kind ≡ 1 → day ≡ pos 0
-  open-day kind day e one = same-day day (pos 0) (rw one at e)
-
-  fair-places : FairPlaces (d .pkind) (d .pday) (d .head .m)
-  fair-places =
-      record {
-        kinds = s .pkind-is;
-        opens = λ i h one. open-day (kindAt (d .pkind) i) (dayAt (d .pday) i) (s .pday-fits i h) one;
-        blanks = λ i h past. s .blank-past i h past .1;
-      }
-
-  sheet : List ℕ
-  sheet = sheetOf (d .head) (d .pkind) (d .pday)
-
-  same-answered : (a b : Sheet) → answered a ≡ answered b → a ≡ b
-  same-answered a b e = cc
-
-  read-as : sheetIn sheet (numbersOf (trailerIn sheet)) ≡ record { numbers = numbersFor (d .head) (length (pendingEntries (d .pkind) (d .pday))); entries = pendingEntries (d .pkind) (d .pday) }
-  unfolding sheet
-  read-as =
-      same-answered _ _ (sym (good-read sheet (sheet-is-good (d .head) (d .pkind) (d .pday) fair-head fair-places (λ i h. fits .pday i)))
-      ∙ sheet-reads-back (d .head) (d .pkind) (d .pday) fair-head fair-places (λ i h. fits .pday i))
-
   pub sheet-carries : carried (sheetOf (d .head) (d .pkind) (d .pday)) ≡ updatesOf (d .pkind) (d .pday)
-  unfolding sheet
-  sheet-carries = ap (λ (x : Sheet). updatesIn (x .entries)) read-as ∙ pending-carried (d .pkind) (d .pday) (fits .pday)
-
-  pub sheet-numbers : numbersOf (trailerIn (sheetOf (d .head) (d .pkind) (d .pday))) ≡ numbersFor (d .head) (length (pendingEntries (d .pkind) (d .pday)))
-  unfolding sheet
-  sheet-numbers = ap (λ (x : Sheet). x .numbers) read-as
-
-  pub sheet-sound : good (sheetOf (d .head) (d .pkind) (d .pday)) ≡ true
-  sheet-sound = sheet-is-good (d .head) (d .pkind) (d .pday) fair-head fair-places (λ i h. fits .pday i)
+  sheet-carries = ap updatesIn (sheet-entries d fits s own more) ∙ pending-carried (d .pkind) (d .pday) (fits .pday)
 
   quiet : (tray : List ℕ) → processOf d tray .blocked ≡ none
   quiet tray = rw none-waits
@@ -194,7 +148,7 @@ send-is-a-step d tray buf v fits e =
       step = sent-step d fits s own more tray;
       sheet = bytes;
       buffer = refl;
-      is-good = sheet-sound d fits s own more;
+      is-good = sheet-good d fits s own more;
       numbers = sheet-numbers d fits s own more;
       carries = sheet-carries d fits s own more;
     }
