@@ -12,7 +12,7 @@ use Prim.Native.Nat.{ℕ, zero, suc, _+_, _*_, _-_, _<_, _≤_}
 use native.Mathlib.Omega.{arith}
 use native.Mathlib.Nat.{not-suc-le-zero, le-of-suc-le-suc}
 use lib.ListN.{length, getD, take, drop, length-append, length-drop, take-append-drop}
-use lib.Seq.{drop-drop, drop-at, take-add, getD-drop, take-all}
+use lib.Seq.{drop-drop, drop-at, take-add, take-all}
 use mir.Syntax.{w32}
 use mir.Val.{SFits}
 use mir.Facts.{toZ-ofZ, fits-ofZ}
@@ -26,6 +26,7 @@ use Rattle.layout.specs.declared.Trailer.{Trailer}
 use Rattle.layout.specs.Promises.{ContentsApart, OpenMeetsNoDay}
 use Rattle.layout.specs.Values.{AreBytes, DaysFit, no-days, a-day}
 use Rattle.layout.specs.Layout.{entryBytes, entriesBytes, trailerBytes, sheetBytes, entryOf, entriesOf, trailerOf, trailerIn, entryFor, contentIn}
+use Rattle.layout.proofs.Bytes.{back-bytes}
 
 -- ---- entries, one by one
 
@@ -106,7 +107,7 @@ entries-bytes (suc n) l b h =
     let one : 6 * suc n ≡ 6 + 6 * n = omega arith in
     rw one
     (ap (λ (q : List ℕ). q ++ entriesBytes (entriesOf n (drop 6 l))) (entry-bytes l b (omega arith))
-    ∙ ap (λ (q : List ℕ). take 6 l ++ q) (entries-bytes n (drop 6 l) (λ i. rw getD-drop (b (6 + i))) (omega (arith, length-drop 6 l)))
+    ∙ ap (λ (q : List ℕ). take 6 l ++ q) (entries-bytes n (drop 6 l) (back-bytes 6 l b) (omega (arith, length-drop 6 l)))
     ∙ sym (take-add 6 (6 * n) l))
 
 pub sheet-again : (s : List ℕ) (n : ℕ) → AreBytes s → length s ≡ 6 * n + 12 → sheetBytes (entriesOf n s) (trailerIn s) ≡ s
@@ -114,7 +115,7 @@ sheet-again s n b long =
     let at : length s - 12 ≡ 6 * n = omega arith in
     let es : entriesBytes (entriesOf n s) ≡ take (6 * n) s = entries-bytes n s b (omega arith) in
     let t : trailerBytes (trailerIn s) ≡ drop (6 * n) s =
-    trailer-bytes (drop (length s - 12) s) (λ i. rw getD-drop (b (length s - 12 + i))) (omega (arith, length-drop (length s - 12) s)) ∙ ap (λ (k : ℕ). drop k s) at
+    trailer-bytes (drop (length s - 12) s) (back-bytes (length s - 12) s b) (omega (arith, length-drop (length s - 12) s)) ∙ ap (λ (k : ℕ). drop k s) at
     in
     ap (λ (x : List ℕ). x ++ trailerBytes (trailerIn s)) es ∙ ap (λ (x : List ℕ). take (6 * n) s ++ x) t ∙ take-append-drop (6 * n) s
 

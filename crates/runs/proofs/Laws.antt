@@ -1,1 +1,3 @@
 pub mod Cyclic
+pub mod Steps
+pub mod Order

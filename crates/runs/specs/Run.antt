@@ -46,8 +46,11 @@ pub record State : Type 0 where
   pub line : List Sheet
 
 -- the sheet before which k were sent
+abbrev pub sheetOn : List Sheet → ℕ → Sheet
+sheetOn line k = getD line k (record { from = 0; bytes = [] })
+
 abbrev pub sheetNo : State → ℕ → Sheet
-sheetNo s k = getD (s .line) k (record { from = 0; bytes = [] })
+sheetNo s = sheetOn (s .line)
 
 -- "Open all desks of a shelf once, with clear trays"
 unfoldable pub start : Shelf → State

@@ -3,3 +3,4 @@ pub mod Looking
 pub mod Holding
 pub mod Parts
 pub mod Places
+pub mod Bytes

@@ -16,8 +16,7 @@ use mathlib.Core.List.{List, [], _∷_}
 use native.Mathlib.Omega.{arith}
 use lib.Dec.{eqb}
 use lib.IntN.{ℤ, pos}
-use lib.ListN.{length, take, drop}
-use lib.Seq.{getD-drop}
+use lib.ListN.{length, drop}
 use mir.Syntax.{w32}
 use mir.Val.{SFits}
 use mir.Facts.{sfits-toZ}
@@ -25,6 +24,7 @@ use borrow.Author.Tests.{eqb-true, eqb-false, ne-eqb, ltb-true, not-false}
 use Rattle.layout.specs.declared.Entry.{Entry}
 use Rattle.layout.specs.Layout.{entryOf, entriesOf, trailerIn, numbersOf}
 use Rattle.layout.specs.Values.{AreBytes}
+use Rattle.layout.proofs.Bytes.{front-bytes, back-bytes}
 use Rattle.sheet.specs.Good.{every, rising, below, kindAndDay}
 use Rattle.sheet.proofs.Laws.Bools.{and-split}
 use Rattle.sheet.proofs.Laws.Good.{good-entries-are}
@@ -138,15 +138,6 @@ waits-after h pkind waits false e w =
     }
 
 -- ---- days of 32 bits
-
-front-bytes : (n : ℕ) (l : List ℕ) → AreBytes l → AreBytes (take n l)
-front-bytes zero l b i = omega arith
-front-bytes (suc n) [] b i = omega arith
-front-bytes (suc n) (x ∷ l) b zero = b 0
-front-bytes (suc n) (x ∷ l) b (suc i) = front-bytes n l (λ j. b (suc j)) i
-
-back-bytes : (n : ℕ) (l : List ℕ) → AreBytes l → AreBytes (drop n l)
-back-bytes n l b i = rw getD-drop (b (n + i))
 
 pub entries-days : (going : Entry → Bool) (n : ℕ) (l : List ℕ) → AreBytes l → Every (λ e. going e ≡ true → SFits w32 (dayOn e)) (entriesOf n l)
 entries-days going zero l b = tt

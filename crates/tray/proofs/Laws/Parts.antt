@@ -1,4 +1,5 @@
 -- Laws of parts of a list: what laying bytes over a buffer leaves of it, and parts of parts.
+--   by-room                                     a fact about what laying leaves, from the two cases
 --   laid-long                                   a buffer is as long as before
 --   laid-inside, laid-before, laid-after        what stands where bytes were laid, before them and after them
 --   part-of, byte-of                            a part of a part, and a byte of one, where they stand in the whole
@@ -45,7 +46,7 @@ module _ (b : List ℕ) (at : ℕ) (x : List ℕ) where
   whole-front room = length-append (take at b) x ∙ ap (λ (n : ℕ). n + length x) (front room)
 
   -- a fact about what laying leaves, from the two cases
-  by-room : (P : List ℕ → Type 0) → (at + length x ≤ length b → P (take at b ++ x ++ drop (at + length x) b)) → P b → P (laidOver b at x)
+  pub by-room : (P : List ℕ → Type 0) → (at + length x ≤ length b → P (take at b ++ x ++ drop (at + length x) b)) → P b → P (laidOver b at x)
   by-room P with-room without = by-test (leb (at + length x) (length b)) refl
     where
       by-test : (t : Bool) → leb (at + length x) (length b) ≡ t → P (laidOver b at x)

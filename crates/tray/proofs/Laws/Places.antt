@@ -1,5 +1,6 @@
 -- Laws of trays for whoever uses them: what a place holds after a sheet was put into it or it was cleared, and that the others stay.
 --   place-there                                  a tray of n places has the place of each desk below n
+--   by-size                                      a fact about what putting a sheet into a place leaves, from the two cases
 --   held-long, cleared-long                      a tray is as long as before
 --   HoldsGood, holds-says, holds-if              what `holdsGood` says, as facts
 --   holds-not-free, holds-look                   a place that holds a good sheet is not free, and a look finds the sheet's numbers
@@ -43,7 +44,7 @@ place-there tray n q long h = omega arith
 
 module _ (tray : List ℕ) (q : ℕ) (s : List ℕ) where
   -- a fact about what putting a sheet into a place leaves, from the two cases
-  by-size : (P : List ℕ → Type 0) → (length s ≤ 396 → P (laidOver tray (start q) (placeBytes s))) → P tray → P (heldIn tray q s)
+  pub by-size : (P : List ℕ → Type 0) → (length s ≤ 396 → P (laidOver tray (start q) (placeBytes s))) → P tray → P (heldIn tray q s)
   by-size P put kept = by-test (leb (length s) 396) refl
     where
       by-test : (t : Bool) → leb (length s) 396 ≡ t → P (heldIn tray q s)

@@ -1,0 +1,78 @@
+-- A fresh shelf is in order, every call keeps it so, and so it is after every run: specs/InOrder.antt.
+--   stays-in-order : RunsStayInOrder
+-- Assumes nothing.
+use Prim.Native.Nat.{ℕ, zero, suc, _+_, _*_, _<_}
+use mathlib.Core.Path.{_≡_, refl, sym, ap, _∙_, subst}
+use mathlib.Core.Bool.{true}
+use mathlib.Core.List.{List, [], _∷_}
+use native.Mathlib.Omega.{arith}
+use lib.ListN.{length, getD, replicate, length-replicate}
+use borrow.Author.Tests.{le-leb, lt-leb, le-ltb, eq-eqb}
+use Rattle.answer.specs.Promises.{Silent}
+use Rattle.answer.proofs.Laws.{answered-if, changed-if}
+use Rattle.layout.proofs.Bytes.{zeros-bytes}
+use Rattle.numbers.specs.Limits.{within}
+use Rattle.tray.specs.Tray.{start, lengthAt, free}
+use Rattle.desk.specs.declared.Desk.{Desk}
+use Rattle.desk.specs.Answers.{opened}
+use Rattle.desk.specs.Calls.{openRules, modeFor, blankDesk, freshHead, openOf}
+use Rattle.keeping.proofs.Keeping.{open-is-sound}
+use Rattle.runs.specs.Calls.{Call, document01}
+use Rattle.runs.specs.Run.{Shelf, Within, State, after, Possible, Run, later}
+use Rattle.runs.specs.Run as run
+use Rattle.runs.specs.InOrder.{is-free, DeskInOrder, InOrder, RunsStayInOrder}
+use Rattle.runs.proofs.Laws.Steps.{step}
+use Rattle.runs.proofs.Laws.Order.{step-in-order}
+
+-- ---- a clear tray
+
+clear : (n i : ℕ) → _≡_ {A = ℕ} (getD (replicate n 0) i 0) 0
+clear zero i = refl
+clear (suc n) zero = refl
+clear (suc n) (suc i) = clear n i
+
+clear-free : (n q : ℕ) → free (replicate n 0) q ≡ true
+clear-free n q = eq-eqb (lengthAt (replicate n 0) q) 0 (rw (clear n (start q), clear n (start q + 1)))
+
+-- ---- a desk that was opened
+
+module _ (shelf : Shelf) (w : Within shelf) (p : ℕ) (here : p < shelf .n) where
+  pub opens : Silent (openRules (shelf .n) (shelf .m) p (shelf .mode p))
+  opens =
+      (rw (le-leb 1 (shelf .n) (w .desks-least), le-leb (shelf .n) 16 (w .desks-most)), (rw (le-leb 1 (shelf .m) (w .cells-least), le-leb (shelf .m) 64 (w .cells-most)), (lt-leb (shelf .n) p here, (le-ltb 3 (shelf .mode p) (w .modes-most p here), tt))))
+
+  fresh-desk : DeskInOrder shelf [] p (openOf (shelf .n) (shelf .m) p (shelf .mode p) .desk) (replicate (398 * shelf .n) 0)
+  unfolding openOf
+  fresh-desk =
+      let rules = openRules (shelf .n) (shelf .m) p (shelf .mode p) in
+      let is = changed-if rules (blankDesk (freshHead 0 0 0 0)) (blankDesk (freshHead (shelf .n) (shelf .m) p (modeFor (shelf .mode p)))) opens in
+      record {
+        is-sound = open-is-sound .sound-record (shelf .n) (shelf .m) p (shelf .mode p) (answered-if rules opened opens);
+        fits = open-is-sound .record-fits (shelf .n) (shelf .m) p (shelf .mode p);
+        n = ap (λ (x : Desk). x .head .n) is;
+        m = ap (λ (x : Desk). x .head .m) is;
+        own = ap (λ (x : Desk). x .head .own) is;
+        mode = ap (λ (x : Desk). x .head .mode) is;
+        no-further = let z = ap (λ (x : Desk). x .head .turn) is in omega (arith, z);
+        past-own = λ k l e. absurd (omega arith);
+        tray-long = length-replicate (398 * shelf .n) 0;
+        tray-bytes = zeros-bytes (398 * shelf .n);
+        places = λ q l. is-free (clear-free (398 * shelf .n) q);
+      }
+
+fresh : (shelf : Shelf) → Within shelf → InOrder shelf (run.start shelf)
+unfolding run.start
+fresh shelf w = record { sheets = λ k l. absurd (omega arith); desks = fresh-desk shelf w }
+
+-- ---- calls
+
+call-in-order : (shelf : Shelf) → Within shelf → (s : State) (c : Call) → InOrder shelf s → Possible (shelf .n) s c → InOrder shelf (after document01 s c)
+call-in-order shelf w s c o here = step-in-order o here (step s c)
+
+run-in-order : (shelf : Shelf) → Within shelf → (s : State) (cs : List Call) → InOrder shelf s → Run document01 (shelf .n) s cs → InOrder shelf (later document01 s cs)
+unfolding Run later
+run-in-order shelf w s [] o r = o
+run-in-order shelf w s (c ∷ cs) o r = run-in-order shelf w (after document01 s c) cs (call-in-order shelf w s c o (r .0)) (r .1)
+
+pub stays-in-order : RunsStayInOrder
+stays-in-order = record { fresh = fresh; call = call-in-order; run = run-in-order }
