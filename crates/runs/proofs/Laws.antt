@@ -1,3 +1,5 @@
 pub mod Cyclic
 pub mod Steps
 pub mod Order
+pub mod Never
+pub mod Taken

@@ -63,3 +63,18 @@ pub record RunsStayInOrder : Type 0 where
   pub call : (shelf : Shelf) → Within shelf → (s : State) (c : Call) → InOrder shelf s → Possible (shelf .n) s c → InOrder shelf (after document01 s c)
   pub run : (shelf : Shelf) → Within shelf → (s : State) (cs : List Call) → InOrder shelf s → Run document01 (shelf .n) s cs
       → InOrder shelf (later document01 s cs)
+
+-- a refusal that never comes, whichever call is next
+abbrev pub Never : ℕ → Type 0
+Never k =
+    (shelf : Shelf) (s : State) (c : Call) → InOrder shelf s → Possible (shelf .n) s c → made document01 s c .answer ≢ refused k
+
+-- 5 "record not sound", 12 "tray length not 398 × n", 13 "sheet not good", 14 "sheet's desks or cells differ from the record's", 17 "sheet's number at or
+-- above turn number + n", 21 "place does not hold a good sheet of this shelf with that sender and turn number, followed by zeros"
+pub record NeverComes : Type 0 where
+  pub never-5 : Never 5
+  pub never-12 : Never 12
+  pub never-13 : Never 13
+  pub never-14 : Never 14
+  pub never-17 : Never 17
+  pub never-21 : Never 21

@@ -17,11 +17,11 @@ kept P (r ∷ rs) before after p f = by-test (kept P rs before after p) (r .appl
     by-test rest true e = rw e p
     by-test rest false e = rw e (rest (λ s. f (e, s)))
 
--- every rule with the number k is off: a pair for each rule, in their order
+-- every rule with the number k is off, as far as the rules before it do not apply: a pair for each rule, in their order
 abbrev pub Off : ℕ → List Rule → Type 0
 Off k [] = Unit {0}
-Off k (r ∷ rs) = (r .number ≡ k → r .applies ≡ false) × Off k rs
+Off k (r ∷ rs) = (r .number ≡ k → r .applies ≡ false) × (r .applies ≡ false → Off k rs)
 
 pub never-given : {k : ℕ} {rs : List Rule} → First k rs → Off k rs → ⊥
 never-given (this p n) off = false≢true (sym (off .0 n) ∙ p)
-never-given (later p f) off = never-given f (off .1)
+never-given (later p f) off = never-given f (off .1 p)

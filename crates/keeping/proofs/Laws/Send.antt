@@ -88,7 +88,7 @@ module _ (d : Desk) where
         let sheet = sheetOf (d .head) (d .pkind) (d .pday) in
         let value = sent (d .head .turn) (length (pendingEntries (d .pkind) (d .pday))) in
         never-given (refused-only-if (sendRules d buf) value 11 e)
-        (λ n. absurd (omega (arith, n)), (λ n. absurd (omega (arith, n)), (λ n. absurd (omega (arith, n)), (λ n. le-ltb (length buf) (length sheet) (omega (arith, sheet-fits)), tt))))
+        (λ n. absurd (omega (arith, n)), λ a. (λ n. absurd (omega (arith, n)), λ b. (λ n. absurd (omega (arith, n)), λ c. (λ n. le-ltb (length buf) (length sheet) (omega (arith, sheet-fits)), λ e. tt))))
 
     pub send-long : length (sendOf d buf .lent) ≡ length buf
     unfolding sendOf

@@ -237,7 +237,7 @@ module _ {shelf : Shelf} {line : List Sheet} {p : ℕ} {d : Desk} {tray : List �
 
 -- ---- send: one more sheet on the line
 
-module _ (shelf : Shelf) (line : List Sheet) (y : Sheet) where
+module _ (line : List Sheet) (y : Sheet) where
   abbrev more : List Sheet
   more = line ++ (y ∷ [])
 
@@ -250,22 +250,22 @@ module _ (shelf : Shelf) (line : List Sheet) (y : Sheet) where
   pub more-last : sheetOn more (length line) ≡ y
   more-last = getD-append-seam line y [] _
 
-  more-place : (turn : ℕ) (tray : List ℕ) (q : ℕ) → PlaceInOrder (shelf .n) line turn tray q → PlaceInOrder (shelf .n) more turn tray q
-  more-place turn tray q (is-free f) = is-free f
-  more-place turn tray q (holds-sheet k sent due from g e) =
+  more-place : (shelf : Shelf) (turn : ℕ) (tray : List ℕ) (q : ℕ) → PlaceInOrder (shelf .n) line turn tray q → PlaceInOrder (shelf .n) more turn tray q
+  more-place shelf turn tray q (is-free f) = is-free f
+  more-place shelf turn tray q (holds-sheet k sent due from g e) =
       holds-sheet k (omega (arith, more-long)) due from g (e ∙ ap (λ (x : Sheet). x .bytes) (sym (more-same k sent)))
 
-  more-sheets : ((k : ℕ) → k < length line → SheetInOrder shelf k (sheetOn line k)) → SheetInOrder shelf (length line) y
+  more-sheets : (shelf : Shelf) → ((k : ℕ) → k < length line → SheetInOrder shelf k (sheetOn line k)) → SheetInOrder shelf (length line) y
       → (k : ℕ) → k < length more → SheetInOrder shelf k (sheetOn more k)
-  more-sheets old new k l = by-test (decLt k (length line))
+  more-sheets shelf old new k l = by-test (decLt k (length line))
     where
       by-test : Dec (k < length line) → SheetInOrder shelf k (sheetOn more k)
       by-test (yes h) = subst (SheetInOrder shelf k) (sym (more-same k h)) (old k h)
       by-test (no h) = let e : k ≡ length line = omega (arith, more-long) in rw e (rw more-last new)
 
   -- a desk whose own sheet this is not
-  more-desk : (p : ℕ) (d : Desk) (tray : List ℕ) → length line % shelf .n ≢ p → DeskInOrder shelf line p d tray → DeskInOrder shelf more p d tray
-  more-desk p d tray other o =
+  more-desk : (shelf : Shelf) (p : ℕ) (d : Desk) (tray : List ℕ) → length line % shelf .n ≢ p → DeskInOrder shelf line p d tray → DeskInOrder shelf more p d tray
+  more-desk shelf p d tray other o =
       record {
         is-sound = o .is-sound;
         fits = o .fits;
@@ -277,7 +277,7 @@ module _ (shelf : Shelf) (line : List Sheet) (y : Sheet) where
         past-own = λ k l e. by-test k l e (decLt k (length line));
         tray-long = o .tray-long;
         tray-bytes = o .tray-bytes;
-        places = λ q l. more-place (d .head .turn) tray q (o .places q l);
+        places = λ q l. more-place shelf (d .head .turn) tray q (o .places q l);
       }
     where
       by-test : (k : ℕ) → k < length more → k % shelf .n ≡ p → Dec (k < length line) → k < d .head .turn
@@ -317,7 +317,7 @@ module _ {shelf : Shelf} {line : List Sheet} {p : ℕ} {d : Desk} {tray : List �
   unfolding sendOf
   sent-in-order =
       let is : sendOf d buffer .desk ≡ sentDesk d = changed-if (sendRules d buffer) d (sentDesk d) silent in
-      let long = more-long shelf line y in
+      let long = more-long line y in
       record {
         is-sound = subst (λ (x : Desk). sound x ≡ true) is (keeps-sound .send d buffer (o .fits) (o .is-sound));
         fits = subst DeskFits is (keeps-fits .send d buffer (o .fits));
@@ -344,7 +344,7 @@ module _ {shelf : Shelf} {s : State} (o : InOrder shelf s) where
       → InOrder shelf (record { desk = put (s .desk) p (sentDesk (s .desk p)); tray = s .tray; line = s .line ++ (record { from = p; bytes = sheetBy (s .desk p) } ∷ []) })
   sends-in-order p buffer here silent =
       record {
-        sheets = more-sheets shelf (s .line) y′ (o .sheets) (sent-sheet k buffer silent);
+        sheets = more-sheets (s .line) y′ shelf (o .sheets) (sent-sheet k buffer silent);
         desks = λ q l. by-desk q l (ℕ-discrete q p);
       }
     where
@@ -362,7 +362,7 @@ module _ {shelf : Shelf} {s : State} (o : InOrder shelf s) where
       by-desk q l (yes e) = rw e (rw (put-same (s .desk) p (sentDesk (s .desk p))) (sent-in-order k buffer silent))
       by-desk q l (no e) =
           rw (put-other (s .desk) p (sentDesk (s .desk p)) q e)
-          (more-desk shelf (s .line) (record { from = p; bytes = sheetBy (s .desk p) }) q (s .desk q) (s .tray q) (other q e) (o .desks q l))
+          (more-desk (s .line) (record { from = p; bytes = sheetBy (s .desk p) }) shelf q (s .desk q) (s .tray q) (other q e) (o .desks q l))
 
   pub step-in-order : {c : Call} {a : Answer Value} {t : State} → Possible (shelf .n) s c → Step s c a t → InOrder shelf t
   step-in-order here (is-refused c k first) = o
