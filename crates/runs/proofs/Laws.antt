@@ -3,3 +3,4 @@ pub mod Steps
 pub mod Order
 pub mod Never
 pub mod Taken
+pub mod Going

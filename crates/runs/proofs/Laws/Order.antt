@@ -1,6 +1,7 @@
 -- Laws of a desk in order (specs/InOrder.antt), and that each step keeps all desks so.
 --   own-last              a desk whose turn it is has got as far as the line
 --   near                  all sheets sent are below a desk's turn number + n: the desk's next sheet of its own is not sent
+--   held-there            a sheet that was delivered is in its place
 --   next-held             what the place of the desk whose turn it is holds is the desk's next sheet
 --   step-in-order         a step keeps a state in order
 -- Assumes nothing.
@@ -160,6 +161,9 @@ module _ {shelf : Shelf} {line : List Sheet} {p : ℕ} {d : Desk} {tray : List �
   few : length sheet ≤ 396
   few = good-within sheet (x .is-good) .1
 
+  pub held-there : holdsGood (heldIn tray q sheet) q ≡ true
+  held-there = held-holds tray q sheet few room ∙ x .is-good
+
   held-in-order : Silent (deliverRules d tray sheet) → DeskInOrder shelf line p d (heldIn tray q sheet)
   held-in-order silent =
       record {
@@ -181,7 +185,7 @@ module _ {shelf : Shelf} {line : List Sheet} {p : ℕ} {d : Desk} {tray : List �
 
       by-place : (r : ℕ) → r < shelf .n → Dec (r ≡ q) → PlaceInOrder (shelf .n) line (d .head .turn) (heldIn tray q sheet) r
       by-place r l (yes e) =
-          rw e (holds-sheet k sent due (sym (x .sender)) (held-holds tray q sheet few room ∙ x .is-good) (held-found tray q sheet few room .sheet-is))
+          rw e (holds-sheet k sent due (sym (x .sender)) held-there (held-found tray q sheet few room .sheet-is))
       by-place r l (no e) = same-place (shelf .n) line (d .head .turn) (heldIn tray q sheet) tray r (held-others tray r q sheet e) (o .places r l)
 
 -- ---- take: the next sheet

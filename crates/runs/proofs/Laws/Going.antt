@@ -1,0 +1,172 @@
+-- Where all is in order and before the end, some desk can send or take: look at the desk whose turn the next sheet is, number (sheets sent) mod n.
+--   can-send              it has taken every sheet sent: it can send into 396 bytes
+--   can-take              or else its next sheet is sent, and once delivered it takes it
+--   going                 so one of the two
+-- Assumes nothing.
+use Prim.Native.Nat.{ℕ, _+_, _*_, _%_, _≤_, _<_}
+use mathlib.Core.Path.{_≡_, refl, sym, ap, _∙_, subst}
+use mathlib.Core.Logic.{_≢_, _⊎_, inl, inr}
+use mathlib.Core.Bool.{Bool, true, false, not, _&&_, false≢true}
+use mathlib.Core.List.{List, [], _∷_}
+use mathlib.Core.Option.{Option}
+use native.Mathlib.Omega.{arith}
+use native.Mathlib.Nat.{mod-lt}
+use native.Mathlib.Decide.{ℕ-discrete}
+use lib.Dec.{eqb, ltb}
+use lib.ListN.{length}
+use borrow.Author.Tests.{eq-eqb, ne-eqb, le-ltb, eqb-true, not-true}
+use Rattle.answer.specs.Answer.{Answer, Rule, refused, answered}
+use Rattle.answer.specs.Promises.{Silent, First, this, later}
+use Rattle.answer.proofs.Laws.{answered-if}
+use Rattle.content.specs.declared.Content.{Content}
+use Rattle.layout.specs.Layout.{trailerIn}
+use Rattle.sound.specs.Head.{causal, turnDesk}
+use Rattle.tray.specs.Tray.{free, sheetAt, holdsGood, heldIn}
+use Rattle.tray.proofs.Laws.Places.{holds-not-free}
+use Rattle.pending.specs.Pending.{pendingEntries, sheetOf}
+use Rattle.pending.proofs.Laws.Sending.{sheet-most}
+use Rattle.applying.specs.Applying.{goes, wentOf}
+use Rattle.desk.specs.declared.Desk.{Desk}
+use Rattle.desk.specs.Answers.{Value, sent, held, taken}
+use Rattle.desk.specs.Calls.{lastTurn, sendRules, sendOf, deliverRules, takeRules, entriesTaken, takenDesk, waitedFor, takeOf}
+use Rattle.runs.specs.Calls.{Call, document01, writes, reads, sends, delivers, takes}
+use Rattle.runs.specs.Run.{Shelf, Sheet, sheetOn, State, sheetNo, made, put, after}
+use Rattle.runs.specs.InOrder.{SheetInOrder, DeskInOrder, InOrder, PlaceInOrder}
+use Rattle.runs.specs.TurnRules.{turnOf, BeforeTheEnd, CanSend, Arrives, is-held, is-there, CanTake}
+use Rattle.runs.proofs.Laws.Steps.{put-same, takenBy, Step, step}
+use Rattle.runs.proofs.Laws.Steps as steps
+use Rattle.runs.proofs.Laws.Order.{some-desks, own-last, near, turn-desk, held-there, NextHeld, next-held, step-in-order}
+use Rattle.runs.proofs.Laws.Never.{tray-fits, same-shelf, in-reach, next-is-next}
+
+-- ---- send
+
+module _ {shelf : Shelf} {line : List Sheet} {p : ℕ} {d : Desk} {tray : List ℕ} (o : DeskInOrder shelf line p d tray) (low : d .head .turn < lastTurn) where
+  before-end : eqb (d .head .turn) lastTurn ≡ false
+  before-end = ne-eqb (d .head .turn) lastTurn (λ e. omega (arith, e))
+
+  sends-now : d .head .turn % shelf .n ≡ p → (buffer : List ℕ) → length buffer ≡ 396 → Silent (sendRules d buffer)
+  sends-now own buffer long =
+      let sheet = sheetOf (d .head) (d .pkind) (d .pday) in
+      (rw (o .is-sound), (rw (eq-eqb (turnDesk (d .head)) (d .head .own) (turn-desk o ∙ own ∙ sym (o .own))), (before-end, (le-ltb (length buffer) (length sheet) (omega (arith, sheet-most (d .head) (d .pkind) (d .pday))), tt))))
+
+  -- ---- take
+
+  takes-now : ((k : ℕ) → k < length line → SheetInOrder shelf k (sheetOn line k)) → d .head .turn % shelf .n ≢ p → free tray (turnDesk (d .head)) ≡ false
+      → Silent (takeRules d tray)
+  takes-now sheets other f =
+      let away : turnDesk (d .head) ≢ d .head .own = λ e. other (sym (turn-desk o) ∙ e ∙ o .own) in
+      (rw (o .is-sound), (rw (tray-fits o), (ne-eqb (turnDesk (d .head)) (d .head .own) away, (before-end, (f, (rw (next-is-next o sheets f), tt))))))
+
+-- ---- deliver
+
+skip : {k : ℕ} {r : Rule} {rs : List Rule} → r .applies ≡ false → First k (r ∷ rs) → First k rs
+skip off (this e n) = absurd (false≢true (sym off ∙ e))
+skip off (later e f) = f
+
+-- the next sheet, where it is delivered: it is held, or it was there before
+data Arrived (s : State) (p k : ℕ) : Answer Value → State → Type 0 where
+  new : {t : State} → t .desk p ≡ s .desk p → free (t .tray p) (turnDesk (s .desk p .head)) ≡ false → Arrived s p k (answered held) t
+  old : sheetAt (s .tray p) (sheetNo s k .from) ≡ sheetNo s k .bytes → free (s .tray p) (turnDesk (s .desk p .head)) ≡ false → Arrived s p k (refused 18) s
+
+module _ {shelf : Shelf} {s : State} (o : InOrder shelf s) (p : ℕ) (here : p < shelf .n)
+    (behind : turnOf s p < length (s .line)) (other : turnOf s p % shelf .n ≢ p) where
+  abbrev d : Desk
+  d = s .desk p
+
+  abbrev k : ℕ
+  k = turnOf s p
+
+  abbrev sheet : List ℕ
+  sheet = sheetNo s k .bytes
+
+  mine : DeskInOrder shelf (s .line) p (s .desk p) (s .tray p)
+  mine = o .desks p here
+
+  x : SheetInOrder shelf k (sheetNo s k)
+  x = o .sheets k behind
+
+  place-is : trailerIn sheet .sender ≡ turnDesk (d .head)
+  place-is = x .sender ∙ sym (turn-desk mine)
+
+  from-is : sheetNo s k .from ≡ turnDesk (d .head)
+  from-is = x .from ∙ sym (turn-desk mine)
+
+  -- of the rules of a delivery only 18 can apply
+  only-18 : (j : ℕ) → First j (deliverRules d (s .tray p) sheet) → (j ≡ 18) × (free (s .tray p) (trailerIn sheet .sender) ≡ false)
+  only-18 j f =
+      let own : trailerIn sheet .sender ≢ d .head .own = λ e. other (sym (x .sender) ∙ e ∙ mine .own) in
+      last (skip (in-reach mine k x behind) (skip (le-ltb (trailerIn sheet .turn) k (omega (arith, x .turn))) (skip (ne-eqb (trailerIn sheet .sender) (d .head .own) own) (skip (rw (same-shelf mine k x)) (skip (rw (x .is-good)) (skip (rw (tray-fits mine)) (skip (rw (mine .is-sound)) f)))))))
+    where
+      last : First j ((record { number = 18; applies = not (free (s .tray p) (trailerIn sheet .sender)) }) ∷ []) → (j ≡ 18) × (free (s .tray p) (trailerIn sheet .sender) ≡ false)
+      last (this e n) = (sym n, not-true _ e)
+
+  arrived : {a : Answer Value} {t : State} → Step s (delivers p k) a t → Arrived s p k a t
+  arrived (steps.is-refused c j f) =
+      let z = only-18 j f in
+      let full : free (s .tray p) (turnDesk (d .head)) ≡ false = rw place-is at (z .1) in
+      rw (z .0) (old (ap (sheetAt (s .tray p)) from-is ∙ next-held mine full .is) full)
+  arrived (steps.is-held q j silent) =
+      new {t = record { desk = s .desk; tray = put (s .tray) p (heldIn (s .tray p) (trailerIn sheet .sender) sheet); line = s .line }} refl
+      (rw (put-same (s .tray) p (heldIn (s .tray p) (trailerIn sheet .sender) sheet), ← place-is) (holds-not-free (heldIn (s .tray p) (trailerIn sheet .sender) sheet) (trailerIn sheet .sender) (held-there mine k behind x)))
+
+  as-held-or-there : {a : Answer Value} {t : State} → made document01 s (delivers p k) .answer ≡ a → Arrived s p k a t → Arrives document01 s p k
+  as-held-or-there e (new same full) = is-held e
+  as-held-or-there e (old there full) = is-there e there
+
+  -- and then it is taken
+  after-arrival : {a : Answer Value} {t : State} → Arrived s p k a t → (t .desk p ≡ s .desk p) × (free (t .tray p) (turnDesk (d .head)) ≡ false)
+  after-arrival (new same full) = (same, full)
+  after-arrival (old there full) = (refl, full)
+
+  then-taken : (t : State) → InOrder shelf t → k < lastTurn → (t .desk p ≡ s .desk p) × (free (t .tray p) (turnDesk (d .head)) ≡ false)
+      → (entries applied : ℕ) × (waited : Option Content) × (made document01 t (takes p) .answer ≡ answered (taken k entries applied waited))
+  unfolding takeOf
+  then-taken t later-order low arrival =
+      let turn : t .desk p .head .turn ≡ k = ap (λ (y : Desk). y .head .turn) (arrival .0) in
+      let full : free (t .tray p) (turnDesk (t .desk p .head)) ≡ false = ap (λ (y : Desk). free (t .tray p) (turnDesk (y .head))) (arrival .0) ∙ arrival .1 in
+      let silent = takes-now (later-order .desks p here) (rw turn low) (later-order .sheets) (rw turn other) full in
+      let y = t .desk p in
+      let es = entriesTaken y (t .tray p) in
+      let entries : ℕ = length es in
+      let applied : ℕ = wentOf (goes (causal (y .head)) (y .pkind)) es in
+      let waited : Option Content = waitedFor (y .head) (takenDesk y es) in
+      (entries, applied, waited, answered-if (takeRules y (t .tray p)) (takenBy y (t .tray p)) silent ∙ ap (λ (n : ℕ). answered (taken n entries applied waited)) turn)
+
+  can-take : k < lastTurn → CanTake document01 s p
+  can-take low =
+      let arrival = arrived (step s (delivers p k)) in
+      let took = then-taken (after document01 s (delivers p k)) (step-in-order o (here, behind) (step s (delivers p k))) low (after-arrival arrival) in
+      record {
+        k = k;
+        sent = behind;
+        from = from-is;
+        turn = x .turn;
+        arrives = as-held-or-there refl arrival;
+        entries = took .0;
+        applied = took .1;
+        waited = took .2;
+        accepted = took .3;
+      }
+
+-- ---- so one of the two
+
+module _ {shelf : Shelf} {s : State} (o : InOrder shelf s) (p : ℕ) (here : p < shelf .n) (next : length (s .line) % shelf .n ≡ p) (low : turnOf s p < lastTurn) where
+  can-send : turnOf s p ≡ length (s .line) → CanSend document01 s p
+  unfolding sendOf
+  can-send e buffer long =
+      let d = s .desk p in
+      let entries : ℕ = length (pendingEntries (d .pkind) (d .pday)) in
+      (entries, answered-if (sendRules d buffer) (sent (d .head .turn) entries) (sends-now (o .desks p here) low (ap (λ (k : ℕ). k % shelf .n) e ∙ next) buffer long))
+
+  one-can : CanSend document01 s p ⊎ CanTake document01 s p
+  one-can = by-turn (ℕ-discrete (turnOf s p) (length (s .line)))
+    where
+      by-turn : Dec (turnOf s p ≡ length (s .line)) → CanSend document01 s p ⊎ CanTake document01 s p
+      by-turn (yes e) = inl (can-send e)
+      by-turn (no e) = inr (can-take o p here (omega (arith, o .desks p here .no-further)) (λ own. e (own-last (o .desks p here) own)) low)
+
+pub going : (shelf : Shelf) (s : State) → 1 ≤ shelf .n → InOrder shelf s → BeforeTheEnd (shelf .n) s
+    → (p : ℕ) × (p < shelf .n) × (CanSend document01 s p ⊎ CanTake document01 s p)
+going shelf s some o before =
+    let here = mod-lt (length (s .line)) some in
+    (length (s .line) % shelf .n, here, one-can o _ here refl (before _ here))
