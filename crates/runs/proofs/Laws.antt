@@ -4,3 +4,4 @@ pub mod Order
 pub mod Never
 pub mod Taken
 pub mod Going
+pub mod Waiting

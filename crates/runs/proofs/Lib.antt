@@ -1,3 +1,4 @@
 pub mod Laws
 pub mod InOrder
+pub mod TurnRules
 pub mod Listing

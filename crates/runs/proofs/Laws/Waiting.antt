@@ -1,0 +1,120 @@
+-- A read that waits: nothing but an accepted take of its desk moves the desk's turn number, and the take that brings the desk's own turn answers it.
+--   Waits                 a read of this cell waits at desk p
+--   wait-ended            once the desk has had as many accepted takes as there are numbers before its next own one, one of them answers
+-- Assumes nothing.
+use Prim.Native.Nat.{ℕ, _+_, _-_, _%_, _≤_, _<_}
+use mathlib.Core.Path.{_≡_, refl, sym, ap, _∙_, subst}
+use mathlib.Core.Logic.{_≢_}
+use mathlib.Core.Bool.{Bool, true, false, not, cond, _&&_, and-false, false≢true}
+use mathlib.Core.List.{List, [], _∷_}
+use mathlib.Core.Option.{Option, none, some}
+use native.Mathlib.Omega.{arith}
+use native.Mathlib.Decide.{ℕ-discrete}
+use lib.Dec.{eqb}
+use lib.ListN.{length}
+use borrow.Author.Tests.{eqb-true, eqb-false, eq-eqb, ne-eqb, not-false}
+use Rattle.answer.specs.Answer.{Answer, answered}
+use Rattle.answer.specs.Promises.{Silent}
+use Rattle.content.specs.declared.Content.{Content}
+use Rattle.layout.specs.declared.Entry.{Entry}
+use Rattle.cells.specs.Cells.{contentAt}
+use Rattle.sound.specs.Head.{causal, turnDesk, ownTurn, readWaits, waitCell}
+use Rattle.tray.specs.Tray.{clearedIn}
+use Rattle.applying.specs.Applying.{goes, wentOf}
+use Rattle.desk.specs.declared.Desk.{Desk}
+use Rattle.desk.specs.Answers.{Value, waits, taken}
+use Rattle.desk.specs.Calls.{nextHead, readEnds, writeRules, writtenDesk, readRules, waitingDesk, sendRules, sentDesk, takeRules, entriesTaken, takenDesk, waitedFor}
+use Rattle.runs.specs.Calls.{Call, document01, writes, reads, sends, delivers, takes}
+use Rattle.runs.specs.Run.{Shelf, State, made, put, after, Possible, Run, later}
+use Rattle.runs.specs.InOrder.{DeskInOrder, InOrder}
+use Rattle.runs.specs.TurnRules.{turnOf, OneOf, first, further, takeOfDesk, accepted, takesBy, AnswersRead, answers-it}
+use Rattle.runs.proofs.Laws.Steps.{put-same, put-other, takenBy, Step, is-refused, is-stored, is-read, is-waiting, is-sent, is-held, is-taken, step}
+use Rattle.runs.proofs.Laws.Order.{desk-sound, sender-is, step-in-order}
+
+-- what a call does to a desk at which a read waits: nothing, or it is an accepted take of that desk
+data Passes (s : State) (p : ℕ) : Call → Answer Value → State → Type 0 where
+  as-it-was : {c : Call} {a : Answer Value} {t : State} → takeOfDesk p c && accepted a ≡ false → t .desk p ≡ s .desk p → Passes s p c a t
+  by-take : {t : State} → t .desk p ≡ takenDesk (s .desk p) (entriesTaken (s .desk p) (s .tray p))
+      → Passes s p (takes p) (answered (takenBy (s .desk p) (s .tray p))) t
+
+module _ {shelf : Shelf} {s : State} (o : InOrder shelf s) (p : ℕ) (here : p < shelf .n) (w : s .desk p .head .wait ≢ 0) where
+  still : readWaits (s .desk p .head) ≡ true
+  still = rw (ne-eqb (s .desk p .head .wait) 0 w)
+
+  passes : {c : Call} {a : Answer Value} {t : State} → Step s c a t → Passes s p c a t
+  passes (is-refused c k f) = as-it-was (and-false (takeOfDesk p c)) refl
+  passes (is-stored q cell c silent) = as-it-was refl (put-other (s .desk) q (writtenDesk (s .desk q) cell c) p apart)
+    where
+      apart : p ≢ q
+      apart z = false≢true (sym (silent .1 .1 .1 .0) ∙ ap (λ (r : ℕ). readWaits (s .desk r .head)) (sym z) ∙ still)
+  passes (is-read q cell silent e) = as-it-was refl refl
+  passes (is-waiting q cell silent e) = as-it-was refl (put-other (s .desk) q (waitingDesk (s .desk q) cell) p apart)
+    where
+      apart : p ≢ q
+      apart z = false≢true (sym (silent .1 .1 .0) ∙ ap (λ (r : ℕ). readWaits (s .desk r .head)) (sym z) ∙ still)
+  passes (is-sent q buffer silent) = as-it-was refl (put-other (s .desk) q (sentDesk (s .desk q)) p apart)
+    where
+      apart : p ≢ q
+      apart z = desk-sound (o .desks p here) .waits w .elsewhere (eqb-true _ _ (not-false (ownTurn (s .desk p .head)) (rw (← z) at silent .1 .0)))
+  passes (is-held q k silent) = as-it-was refl refl
+  passes (is-taken q silent) = by-desk (ℕ-discrete p q)
+    where
+      by-desk : Dec (p ≡ q) → Passes s p (takes q) (answered (takenBy (s .desk q) (s .tray q))) (record { desk = put (s .desk) q (takenDesk (s .desk q) (entriesTaken (s .desk q) (s .tray q))); tray = put (s .tray) q (clearedIn (s .tray q) (turnDesk (s .desk q .head))); line = s .line })
+      by-desk (yes z) = rw (← z) (by-take (put-same (s .desk) p (takenDesk (s .desk p) (entriesTaken (s .desk p) (s .tray p)))))
+      by-desk (no z) = as-it-was {c = takes q} {a = answered (takenBy (s .desk q) (s .tray q))} (rw (ne-eqb q p (λ e. z (sym e)))) (put-other (s .desk) q (takenDesk (s .desk q) (entriesTaken (s .desk q) (s .tray q))) p z)
+
+-- ---- the take that answers
+
+module _ {shelf : Shelf} {s : State} (o : InOrder shelf s) (p : ℕ) (here : p < shelf .n) (cell : ℕ) (w : s .desk p .head .wait ≡ cell + 1) where
+  abbrev d : Desk
+  d = s .desk p
+
+  abbrev es : List Entry
+  es = entriesTaken d (s .tray p)
+
+  abbrev then : Desk
+  then = takenDesk d es
+
+  waited-for : readEnds (d .head) ≡ true → waitedFor (d .head) then ≡ some (contentAt (then .kind) (then .day) cell)
+  waited-for e = let at : waitCell (d .head) ≡ cell = omega (arith, w) in rw (e, at)
+
+  answers-now : made document01 s (takes p) .answer ≡ answered (takenBy d (s .tray p)) → after document01 s (takes p) .desk p ≡ then → readEnds (d .head) ≡ true
+      → AnswersRead document01 p cell s (takes p)
+  answers-now a same e =
+      answers-it (d .head .turn) (length es) (wentOf (goes (causal (d .head)) (d .pkind)) es) (contentAt (then .kind) (then .day) cell)
+      (a ∙ ap (λ (x : Option Content). answered (taken (d .head .turn) (length es) (wentOf (goes (causal (d .head)) (d .pkind)) es) x)) (waited-for e))
+      (ap (λ (x : Desk). contentAt (x .kind) (x .day) cell) (sym same))
+
+  -- where it does not, the read goes on waiting, and the turn is not yet the desk's own
+  not-yet : readEnds (d .head) ≡ false → (then .head .wait ≡ cell + 1) × ((d .head .turn + 1) % shelf .n ≢ p)
+  not-yet e =
+      (rw e w, λ own. false≢true (sym e ∙ rw (ne-eqb (d .head .wait) 0 (λ z. omega (arith, w, z)), eq-eqb ((d .head .turn + 1) % d .head .n) (d .head .own) (rw (o .desks p here .n, o .desks p here .own) own))))
+
+-- ---- a list of calls
+
+pub wait-ended : (shelf : Shelf) (p : ℕ) → p < shelf .n → (cell k : ℕ) → k % shelf .n ≡ p → (s : State) (ds : List Call) → InOrder shelf s → Run document01 (shelf .n) s ds
+    → s .desk p .head .wait ≡ cell + 1 → turnOf s p < k → k ≤ turnOf s p + takesBy document01 p s ds
+    → OneOf document01 (AnswersRead document01 p cell) s ds
+unfolding Run takesBy
+wait-ended shelf p here cell k own s [] o r w least most = absurd (omega arith)
+wait-ended shelf p here cell k own s (c ∷ ds) o r w least most =
+    by-pass c refl (passes o p here (λ z. omega (arith, w, z)) (step s c)) most
+    (λ w′ l m. further (wait-ended shelf p here cell k own (after document01 s c) ds (step-in-order o (r .0) (step s c)) (r .1) w′ l m))
+  where
+    by-pass : (c : Call) {a : Answer Value} → made document01 s c .answer ≡ a → Passes s p c a (after document01 s c)
+        → k ≤ turnOf s p + (cond (takeOfDesk p c && accepted a) 1 0 + takesBy document01 p (after document01 s c) ds)
+        → (after document01 s c .desk p .head .wait ≡ cell + 1 → turnOf (after document01 s c) p < k → k ≤ turnOf (after document01 s c) p + takesBy document01 p (after document01 s c) ds
+        → OneOf document01 (AnswersRead document01 p cell) s (c ∷ ds))
+        → OneOf document01 (AnswersRead document01 p cell) s (c ∷ ds)
+    by-pass c e (as-it-was miss same) m rest =
+        let turn : turnOf (after document01 s c) p ≡ turnOf s p = ap (λ (x : Desk). x .head .turn) same in
+        rest (ap (λ (x : Desk). x .head .wait) same ∙ w) (omega (arith, turn)) (omega (arith, turn, rw miss at m))
+    by-pass c e (by-take same) m rest = by-end (readEnds (s .desk p .head)) refl
+      where
+        by-end : (t : Bool) → readEnds (s .desk p .head) ≡ t → OneOf document01 (AnswersRead document01 p cell) s (takes p ∷ ds)
+        by-end true ends = first {s = s} {c = takes p} (answers-now o p here cell w e same ends)
+        by-end false ends =
+            let on = not-yet o p here cell w ends in
+            let turn : turnOf (after document01 s (takes p)) p ≡ turnOf s p + 1 = ap (λ (x : Desk). x .head .turn) same in
+            let apart : turnOf s p + 1 ≢ k = λ z. on .1 (ap (λ (j : ℕ). j % shelf .n) z ∙ own) in
+            rest (ap (λ (x : Desk). x .head .wait) same ∙ on .0) (omega (arith, turn)) (omega (arith, turn, rw (eq-eqb p p refl) at m))
