@@ -5,3 +5,4 @@ pub mod Never
 pub mod Taken
 pub mod Going
 pub mod Waiting
+pub mod Tested

@@ -1,4 +1,5 @@
 pub mod Laws
 pub mod InOrder
 pub mod TurnRules
-pub mod Listing
+pub mod Played
+pub mod Wrong

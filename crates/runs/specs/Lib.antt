@@ -1,4 +1,6 @@
 pub mod Calls
 pub mod Run
-pub mod InOrder
 pub mod TurnRules
+pub mod InOrder
+pub mod Played
+pub mod Wrong
