@@ -66,13 +66,13 @@ fresh shelf w = record { sheets = λ k l. absurd (omega arith); desks = fresh-de
 
 -- ---- calls
 
-call-in-order : (shelf : Shelf) → Within shelf → (s : State) (c : Call) → InOrder shelf s → Possible (shelf .n) s c → InOrder shelf (after document01 s c)
-call-in-order shelf w s c o here = step-in-order o here (step s c)
+call-in-order : (shelf : Shelf) (s : State) (c : Call) → InOrder shelf s → Possible (shelf .n) s c → InOrder shelf (after document01 s c)
+call-in-order shelf s c o here = step-in-order o here (step s c)
 
-run-in-order : (shelf : Shelf) → Within shelf → (s : State) (cs : List Call) → InOrder shelf s → Run document01 (shelf .n) s cs → InOrder shelf (later document01 s cs)
+run-in-order : (shelf : Shelf) (s : State) (cs : List Call) → InOrder shelf s → Run document01 (shelf .n) s cs → InOrder shelf (later document01 s cs)
 unfolding Run later
-run-in-order shelf w s [] o r = o
-run-in-order shelf w s (c ∷ cs) o r = run-in-order shelf w (after document01 s c) cs (call-in-order shelf w s c o (r .0)) (r .1)
+run-in-order shelf s [] o r = o
+run-in-order shelf s (c ∷ cs) o r = run-in-order shelf (after document01 s c) cs (call-in-order shelf s c o (r .0)) (r .1)
 
 pub stays-in-order : RunsStayInOrder
 stays-in-order = record { fresh = fresh; call = call-in-order; run = run-in-order }

@@ -1,5 +1,6 @@
 pub mod Laws
 pub mod InOrder
 pub mod TurnRules
+pub mod AtTheEnd
 pub mod Played
 pub mod Wrong

@@ -43,7 +43,7 @@ now-waits {s} e (is-waiting q i silent w) = ap (λ (x : Desk). x .head .wait) (p
 
 module _ (shelf : Shelf) (w : Within shelf) (cs : List Call) (r : Run document01 (shelf .n) (start shelf) cs) where
   o : InOrder shelf (now document01 shelf cs)
-  o = stays-in-order .run shelf w (start shelf) cs (stays-in-order .fresh shelf w) r
+  o = stays-in-order .run shelf (start shelf) cs (stays-in-order .fresh shelf w) r
 
   one-turn : OneTurn document01 shelf cs
   one-turn p q here there a b = has-turn o p here a ∙ sym (has-turn o q there b)

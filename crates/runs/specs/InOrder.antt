@@ -60,8 +60,8 @@ pub record InOrder (shelf : Shelf) (s : State) : Type 0 where
 -- a fresh shelf is in order, and every call of a run keeps it so; so it is in order after every run
 pub record RunsStayInOrder : Type 0 where
   pub fresh : (shelf : Shelf) → Within shelf → InOrder shelf (start shelf)
-  pub call : (shelf : Shelf) → Within shelf → (s : State) (c : Call) → InOrder shelf s → Possible (shelf .n) s c → InOrder shelf (after document01 s c)
-  pub run : (shelf : Shelf) → Within shelf → (s : State) (cs : List Call) → InOrder shelf s → Run document01 (shelf .n) s cs
+  pub call : (shelf : Shelf) (s : State) (c : Call) → InOrder shelf s → Possible (shelf .n) s c → InOrder shelf (after document01 s c)
+  pub run : (shelf : Shelf) (s : State) (cs : List Call) → InOrder shelf s → Run document01 (shelf .n) s cs
       → InOrder shelf (later document01 s cs)
 
 -- a refusal that never comes, whichever call is next

@@ -2,5 +2,6 @@ pub mod Calls
 pub mod Run
 pub mod TurnRules
 pub mod InOrder
+pub mod AtTheEnd
 pub mod Played
 pub mod Wrong

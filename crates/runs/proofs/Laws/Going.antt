@@ -132,7 +132,7 @@ module _ {shelf : Shelf} {s : State} (o : InOrder shelf s) (p : ℕ) (here : p <
       let waited : Option Content = waitedFor (y .head) (takenDesk y es) in
       (entries, applied, waited, answered-if (takeRules y (t .tray p)) (takenBy y (t .tray p)) silent ∙ ap (λ (n : ℕ). answered (taken n entries applied waited)) turn)
 
-  can-take : k < lastTurn → CanTake document01 s p
+  pub can-take : k < lastTurn → CanTake document01 s p
   can-take low =
       let arrival = arrived (step s (delivers p k)) in
       let took = then-taken (after document01 s (delivers p k)) (step-in-order o (here, behind) (step s (delivers p k))) low (after-arrival arrival) in
@@ -151,7 +151,7 @@ module _ {shelf : Shelf} {s : State} (o : InOrder shelf s) (p : ℕ) (here : p <
 -- ---- so one of the two
 
 module _ {shelf : Shelf} {s : State} (o : InOrder shelf s) (p : ℕ) (here : p < shelf .n) (next : length (s .line) % shelf .n ≡ p) (low : turnOf s p < lastTurn) where
-  can-send : turnOf s p ≡ length (s .line) → CanSend document01 s p
+  pub can-send : turnOf s p ≡ length (s .line) → CanSend document01 s p
   unfolding sendOf
   can-send e buffer long =
       let d = s .desk p in

@@ -1,5 +1,6 @@
 -- What a desk has gone past it has taken: every sheet of another desk below its turn number was taken by one of the calls.
 --   line-kept             sheets stay on the line, where they are
+--   never-back            no call takes a turn number back
 --   gone-past             the calls that brought a desk's turn number from below k to above it have a take of sheet k, or k is the desk's own
 -- Assumes nothing.
 use Prim.Native.Nat.{ℕ, _+_, _%_, _≤_, _<_}
@@ -94,6 +95,14 @@ module _ {shelf : Shelf} {s : State} (o : InOrder shelf s) (p : ℕ) (here : p <
           let held = next-held (o .desks p here) (silent′ .1 .1 .1 .1 .0) in
           rw (← z) (by-take (takes-it _ (rw (← z) at e) (held .is)) (held .sent) (ap turn-in (put-same (s .desk) p (takenDesk (s .desk p) (entriesTaken (s .desk p) (s .tray p))))))
       by-desk (no z) = stays (other-turn q (takenDesk (s .desk q) (entriesTaken (s .desk q) (s .tray q))) z)
+
+  pub never-back : (c : Call) → turnOf s p ≤ turnOf (after document01 s c) p
+  never-back c = by-move (moves refl (step s c))
+    where
+      by-move : {c : Call} {t : State} → Moves (shelf .n) s p c t → turnOf s p ≤ turnOf t p
+      by-move (stays e) = omega (arith, e)
+      by-move (by-send own e) = omega (arith, e)
+      by-move (by-take it sent e) = omega (arith, e)
 
 -- ---- a list of calls
 

@@ -1,0 +1,42 @@
+-- The end of the turn numbers. 00, demand 3: "While no desk's turn number has reached its end". 01's table has 4,294,967,295 as the greatest, and
+-- 10 is "turn number is 4,294,967,295". A desk whose turn number is that sends and takes no more, and nothing else changes: its record stays
+-- sound, it writes and reads, the others go on as far as they can, and the turn rules hold, but for the fourth, which is about going on.
+-- proofs/AtTheEnd.antt proves it.
+-- Assumes nothing.
+use mathlib.Core.Path.{_≡_}
+use mathlib.Core.Logic.{_⊎_}
+use mathlib.Core.Bool.{true, false}
+use mathlib.Core.List.{List}
+use Prim.Native.Nat.{ℕ, _<_}
+use lib.ListN.{length}
+use Rattle.answer.specs.Answer.{refused}
+use Rattle.sound.specs.Head.{ownTurn}
+use Rattle.desk.specs.Calls.{lastTurn}
+use Rattle.runs.specs.Calls.{Call, document01, sends, delivers, takes}
+use Rattle.runs.specs.Run.{Shelf, State, start, made, after, Possible, Run}
+use Rattle.runs.specs.TurnRules.{now, turnOf}
+use Rattle.runs.specs.InOrder.{InOrder}
+
+-- what desk p answers there
+pub record AtItsEnd (n : ℕ) (s : State) (p : ℕ) : Type 0 where
+  -- 10, after 9 "turn not this desk's" in a send and 19 "take on the desk's own turn" in a take
+  pub own-send : ownTurn (s .desk p .head) ≡ true → (buffer : List ℕ) → made document01 s (sends p buffer) .answer ≡ refused 10
+  pub other-send : ownTurn (s .desk p .head) ≡ false → (buffer : List ℕ) → made document01 s (sends p buffer) .answer ≡ refused 9
+  pub own-take : ownTurn (s .desk p .head) ≡ true → made document01 s (takes p) .answer ≡ refused 19
+  pub other-take : ownTurn (s .desk p .head) ≡ false → made document01 s (takes p) .answer ≡ refused 10
+  -- every sheet sent is its own, or was taken: 15 or 16
+  pub delivery : (k : ℕ) → k < length (s .line) → (made document01 s (delivers p k) .answer ≡ refused 15) ⊎ (made document01 s (delivers p k) .answer ≡ refused 16)
+  -- and its turn number stays, whichever call is next
+  pub stays : (c : Call) → Possible n s c → turnOf (after document01 s c) p ≡ lastTurn
+
+abbrev pub NothingBreaks : Type 0
+NothingBreaks = (shelf : Shelf) (s : State) → InOrder shelf s → (p : ℕ) → p < shelf .n → turnOf s p ≡ lastTurn → AtItsEnd (shelf .n) s p
+
+-- the end comes: one desk alone that sends again and again gets there
+abbrev pub oneDesk : Shelf
+oneDesk = record { n = 1; m = 1; mode = λ p. 2 }
+
+pub record TheEndComes : Type 0 where
+  pub calls : List Call
+  pub run : Run document01 1 (start oneDesk) calls
+  pub turn : turnOf (now document01 oneDesk calls) 0 ≡ lastTurn
