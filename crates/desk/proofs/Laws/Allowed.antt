@@ -1,0 +1,150 @@
+-- What is so where a call is carried out: its rules, none of which applies, as facts with a name each, in 01's order. Whoever needs one asks for it
+-- by that name, and not by its place in the list of rules.
+--   OpenAllowed, WriteAllowed, ReadAllowed, SendAllowed, DeliverAllowed, TakeAllowed
+--   open-allows, write-allows, read-allows, send-allows, deliver-allows, take-allows
+-- Assumes nothing.
+use Prim.Native.Nat.{ℕ, _+_, _*_, _≤_, _<_}
+use mathlib.Core.Path.{_≡_}
+use mathlib.Core.Logic.{_≢_}
+use mathlib.Core.Bool.{true, false, _&&_}
+use mathlib.Core.List.{List}
+use lib.Dec.{eqb, leb}
+use lib.ListN.{length}
+use borrow.Author.Tests.{eqb-true, eqb-false, leb-true, leb-false, ltb-false, not-false}
+use Rattle.answer.specs.Promises.{Silent}
+use Rattle.content.specs.declared.Content.{Content}
+use Rattle.content.specs.Content.{kindOf}
+use Rattle.layout.specs.Layout.{trailerIn, numbersOf}
+use Rattle.sheet.specs.Good.{good}
+use Rattle.sheet.proofs.Laws.Bools.{and-split}
+use Rattle.sound.specs.Head.{turnDesk, ownTurn, readWaits}
+use Rattle.sound.proofs.Laws.Sound.{Sound, sound-says}
+use Rattle.tray.specs.Tray.{free, sheetAt, holdsGood}
+use Rattle.pending.specs.Pending.{sheetOf}
+use Rattle.desk.specs.declared.Desk.{Desk}
+use Rattle.desk.specs.Calls.{sound, lastTurn, openRules, writeRules, readRules, sendRules, deliverRules, takeRules, isNext}
+use Rattle.desk.proofs.Laws.Next.{Next, next-says}
+
+-- a sound record, as its clauses
+abbrev pub SoundDesk : Desk → Type 0
+SoundDesk d = Sound (d .head) (d .kind) (d .day) (d .pkind) (d .pday)
+
+pub desk-says : (d : Desk) → sound d ≡ true → SoundDesk d
+desk-says d = sound-says {h = d .head} {kind = d .kind} {day = d .day} {pkind = d .pkind} {pday = d .pday}
+
+pub record OpenAllowed (n m own mode : ℕ) : Type 0 where
+  pub desks-least : 1 ≤ n
+  pub desks-most : n ≤ 16
+  pub cells-least : 1 ≤ m
+  pub cells-most : m ≤ 64
+  pub own-below : own < n
+  pub mode-most : mode ≤ 3
+
+pub open-allows : (n m own mode : ℕ) → Silent (openRules n m own mode) → OpenAllowed n m own mode
+open-allows n m own mode silent =
+    let desks = and-split (leb 1 n) (leb n 16) (not-false _ (silent .0)) in
+    let cells = and-split (leb 1 m) (leb m 64) (not-false _ (silent .1 .0)) in
+    record {
+      desks-least = leb-true 1 n (desks .0);
+      desks-most = leb-true n 16 (desks .1);
+      cells-least = leb-true 1 m (cells .0);
+      cells-most = leb-true m 64 (cells .1);
+      own-below = leb-false n own (silent .1 .1 .0);
+      mode-most = ltb-false 3 mode (silent .1 .1 .1 .0);
+    }
+
+module _ (d : Desk) where
+  pub record WriteAllowed (cell : ℕ) (c : Content) : Type 0 where
+    pub is-sound : sound d ≡ true
+    pub cell-below : cell < d .head .m
+    pub not-blank : kindOf c ≢ 0
+    pub none-waits : readWaits (d .head) ≡ false
+
+  pub write-allows : (cell : ℕ) (c : Content) → Silent (writeRules d cell c) → WriteAllowed cell c
+  write-allows cell c silent =
+      record {
+        is-sound = not-false (sound d) (silent .0);
+        cell-below = leb-false (d .head .m) cell (silent .1 .0);
+        not-blank = eqb-false (kindOf c) 0 (silent .1 .1 .0);
+        none-waits = silent .1 .1 .1 .0;
+      }
+
+  pub record ReadAllowed (cell : ℕ) : Type 0 where
+    pub is-sound : sound d ≡ true
+    pub cell-below : cell < d .head .m
+    pub none-waits : readWaits (d .head) ≡ false
+
+  pub read-allows : (cell : ℕ) → Silent (readRules d cell) → ReadAllowed cell
+  read-allows cell silent =
+      record {
+        is-sound = not-false (sound d) (silent .0);
+        cell-below = leb-false (d .head .m) cell (silent .1 .0);
+        none-waits = silent .1 .1 .0;
+      }
+
+  pub record SendAllowed (buf : List ℕ) : Type 0 where
+    pub is-sound : sound d ≡ true
+    pub own-turn : ownTurn (d .head) ≡ true
+    pub not-last : eqb (d .head .turn) lastTurn ≡ false
+    pub room : length (sheetOf (d .head) (d .pkind) (d .pday)) ≤ length buf
+
+  pub send-allows : (buf : List ℕ) → Silent (sendRules d buf) → SendAllowed buf
+  send-allows buf silent =
+      record {
+        is-sound = not-false (sound d) (silent .0);
+        own-turn = not-false (ownTurn (d .head)) (silent .1 .0);
+        not-last = silent .1 .1 .0;
+        room = ltb-false (length buf) (length (sheetOf (d .head) (d .pkind) (d .pday))) (silent .1 .1 .1 .0);
+      }
+
+  pub record DeliverAllowed (tray s : List ℕ) : Type 0 where
+    pub is-sound : sound d ≡ true
+    pub tray-fits : length tray ≡ 398 * d .head .n
+    pub sheet-good : good s ≡ true
+    pub same-desks : trailerIn s .desks ≡ d .head .n
+    pub same-cells : trailerIn s .cells ≡ d .head .m
+    pub other-sender : trailerIn s .sender ≢ d .head .own
+    pub due : d .head .turn ≤ trailerIn s .turn
+    pub near : trailerIn s .turn < d .head .turn + d .head .n
+    pub place-free : free tray (trailerIn s .sender) ≡ true
+
+  pub deliver-allows : (tray s : List ℕ) → Silent (deliverRules d tray s) → DeliverAllowed tray s
+  deliver-allows tray s silent =
+      let h = d .head in
+      let x = trailerIn s in
+      let shelf = and-split (eqb (x .desks) (h .n)) (eqb (x .cells) (h .m)) (not-false _ (silent .1 .1 .1 .0)) in
+      record {
+        is-sound = not-false (sound d) (silent .0);
+        tray-fits = eqb-true (length tray) (398 * h .n) (not-false _ (silent .1 .0));
+        sheet-good = not-false (good s) (silent .1 .1 .0);
+        same-desks = eqb-true (x .desks) (h .n) (shelf .0);
+        same-cells = eqb-true (x .cells) (h .m) (shelf .1);
+        other-sender = eqb-false (x .sender) (h .own) (silent .1 .1 .1 .1 .0);
+        due = ltb-false (x .turn) (h .turn) (silent .1 .1 .1 .1 .1 .0);
+        near = leb-false (h .turn + h .n) (x .turn) (silent .1 .1 .1 .1 .1 .1 .0);
+        place-free = not-false (free tray (x .sender)) (silent .1 .1 .1 .1 .1 .1 .1 .0);
+      }
+
+  pub record TakeAllowed (tray : List ℕ) : Type 0 where
+    pub is-sound : sound d ≡ true
+    pub tray-fits : length tray ≡ 398 * d .head .n
+    pub elsewhere : ownTurn (d .head) ≡ false
+    pub not-last : eqb (d .head .turn) lastTurn ≡ false
+    pub not-free : free tray (turnDesk (d .head)) ≡ false
+    pub holds-good : holdsGood tray (turnDesk (d .head)) ≡ true
+    pub is-next : Next (d .head) (numbersOf (trailerIn (sheetAt tray (turnDesk (d .head)))))
+
+  pub take-allows : (tray : List ℕ) → Silent (takeRules d tray) → TakeAllowed tray
+  take-allows tray silent =
+      let h = d .head in
+      let x = numbersOf (trailerIn (sheetAt tray (turnDesk h))) in
+      let held = and-split (holdsGood tray (turnDesk h)) (isNext h x) (not-false _ (silent .1 .1 .1 .1 .1 .0)) in
+      record {
+        is-sound = not-false (sound d) (silent .0);
+        tray-fits = eqb-true (length tray) (398 * h .n) (not-false _ (silent .1 .0));
+        elsewhere = silent .1 .1 .0;
+        not-last = silent .1 .1 .1 .0;
+        not-free = silent .1 .1 .1 .1 .0;
+        holds-good = held .0;
+        is-next = next-says h x (held .1);
+      }
