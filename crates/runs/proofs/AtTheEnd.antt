@@ -3,8 +3,8 @@
 --   the-end-comes : TheEndComes
 -- Assumes nothing.
 use Prim.Native.Nat.{ℕ, zero, suc, _+_, _%_, _≤_, _<_}
-use mathlib.Core.Path.{_≡_, refl, sym, ap, _∙_}
-use mathlib.Core.Logic.{_≢_, _⊎_, inl, inr}
+use mathlib.Core.Path.{_≡_, refl, ap, _∙_}
+use mathlib.Core.Logic.{_⊎_, inl, inr}
 use mathlib.Core.Bool.{Bool, true, false, not, _&&_}
 use mathlib.Core.List.{List, [], _∷_, _++_}
 use native.Mathlib.Omega.{arith}
@@ -18,21 +18,20 @@ use Rattle.answer.specs.Promises.{this, later}
 use Rattle.answer.proofs.Laws.{refused-if}
 use Rattle.layout.specs.Layout.{trailerIn}
 use Rattle.sheet.proofs.Laws.Good.{good-trailer-is-fair}
-use Rattle.sound.specs.Head.{ownTurn}
-use Rattle.tray.specs.Tray.{heldIn}
 use Rattle.desk.specs.declared.Desk.{Desk}
-use Rattle.desk.specs.Answers.{Value, sent, held}
+use Rattle.desk.specs.Answers.{sent, held}
 use Rattle.desk.specs.Calls.{sound, lastTurn, trayFits, openOf, sendRules, sendOf, deliverRules, deliverOf, takeRules, takeOf}
 use Rattle.keeping.proofs.Keeping.{numbers-stay}
-use Rattle.runs.specs.Calls.{Call, document01, sends, delivers, takes}
-use Rattle.runs.specs.Run.{Shelf, Within, State, sheetNo, start, made, put, after, Possible, Run}
+use Rattle.runs.specs.Calls.{Call, document01, sends, delivers}
+use Rattle.runs.specs.Run.{Shelf, Within, State, sheetNo, start, made, after, Run}
 use Rattle.runs.specs.Run as runs
 use Rattle.runs.specs.TurnRules.{now, turnOf}
 use Rattle.runs.specs.InOrder.{SheetInOrder, DeskInOrder, InOrder}
 use Rattle.runs.specs.AtTheEnd.{AtItsEnd, NothingBreaks, oneDesk, TheEndComes}
 use Rattle.runs.proofs.InOrder.{stays-in-order}
+use Rattle.runs.proofs.Laws.Lists.{later-append, run-append}
 use Rattle.runs.proofs.Laws.Steps.{put-same}
-use Rattle.runs.proofs.Laws.Order.{own-last, turn-desk}
+use Rattle.runs.proofs.Laws.Order.{own-last}
 use Rattle.runs.proofs.Laws.Never.{tray-fits, same-shelf}
 use Rattle.runs.proofs.Laws.Taken.{never-back}
 use Rattle.runs.proofs.Laws.Going.{can-send}
@@ -87,17 +86,6 @@ nothing-breaks shelf s o p here end = at-its-end o p here end
 
 -- ---- one desk alone gets there
 
--- one call more
-run-more : (n : ℕ) (s : State) (cs : List Call) (c : Call) → Run document01 n s cs → Possible n (runs.later document01 s cs) c → Run document01 n s (cs ++ c ∷ [])
-unfolding Run runs.later
-run-more n s [] c r h = (h, tt)
-run-more n s (d ∷ cs) c r h = (r .0, run-more n (after document01 s d) cs c (r .1) h)
-
-later-more : (s : State) (cs : List Call) (c : Call) → runs.later document01 s (cs ++ c ∷ []) ≡ after document01 (runs.later document01 s cs) c
-unfolding runs.later
-later-more s [] c = refl
-later-more s (d ∷ cs) c = later-more (after document01 s d) cs c
-
 -- calls that bring the desk to a turn number
 record Brings (turn : ℕ) : Type 0 where
   calls : List Call
@@ -115,13 +103,13 @@ one-within =
     }
 
 one-more : (turn : ℕ) → turn < lastTurn → Brings turn → Brings (turn + 1)
-unfolding after
+unfolding after Run runs.later
 one-more turn low b =
     record {
       calls = b .calls ++ sends 0 lent ∷ [];
-      run = run-more 1 (start oneDesk) (b .calls) (sends 0 lent) (b .run) (omega arith);
+      run = run-append document01 1 (start oneDesk) (b .calls) (sends 0 lent ∷ []) (b .run) (omega arith, tt);
       is =
-          ap (λ (t : State). turnOf t 0) (later-more (start oneDesk) (b .calls) (sends 0 lent))
+          ap (λ (t : State). turnOf t 0) (later-append document01 (start oneDesk) (b .calls) (sends 0 lent ∷ []))
           ∙ ap (λ (d : Desk). d .head .turn) (put-same (s .desk) 0 (sendOf (s .desk 0) lent .desk))
           ∙ numbers-stay .send-turn (s .desk 0) lent .carried-out (sent (turnOf s 0) (can .0)) (can .1)
           ∙ ap (λ (k : ℕ). k + 1) (b .is);

@@ -2,20 +2,20 @@
 --   stays-in-order : RunsStayInOrder
 -- Assumes nothing.
 use Prim.Native.Nat.{ℕ, zero, suc, _+_, _*_, _<_}
-use mathlib.Core.Path.{_≡_, refl, sym, ap, _∙_, subst}
+use mathlib.Core.Path.{_≡_, refl, ap}
 use mathlib.Core.Bool.{true}
 use mathlib.Core.List.{List, [], _∷_}
 use native.Mathlib.Omega.{arith}
-use lib.ListN.{length, getD, replicate, length-replicate}
-use borrow.Author.Tests.{le-leb, lt-leb, le-ltb, eq-eqb}
+use lib.ListN.{getD, replicate, length-replicate}
+use borrow.Author.Tests.{eq-eqb}
 use Rattle.answer.specs.Promises.{Silent}
 use Rattle.answer.proofs.Laws.{answered-if, changed-if}
 use Rattle.layout.proofs.Bytes.{zeros-bytes}
-use Rattle.numbers.specs.Limits.{within}
 use Rattle.tray.specs.Tray.{start, lengthAt, free}
 use Rattle.desk.specs.declared.Desk.{Desk}
 use Rattle.desk.specs.Answers.{opened}
 use Rattle.desk.specs.Calls.{openRules, modeFor, blankDesk, freshHead, openOf}
+use Rattle.desk.proofs.Laws.Allowed.{open-if}
 use Rattle.keeping.proofs.Keeping.{open-is-sound}
 use Rattle.runs.specs.Calls.{Call, document01}
 use Rattle.runs.specs.Run.{Shelf, Within, State, after, Possible, Run, later}
@@ -37,9 +37,17 @@ clear-free n q = eq-eqb (lengthAt (replicate n 0) q) 0 (rw (clear n (start q), c
 -- ---- a desk that was opened
 
 module _ (shelf : Shelf) (w : Within shelf) (p : ℕ) (here : p < shelf .n) where
-  pub opens : Silent (openRules (shelf .n) (shelf .m) p (shelf .mode p))
+  opens : Silent (openRules (shelf .n) (shelf .m) p (shelf .mode p))
   opens =
-      (rw (le-leb 1 (shelf .n) (w .desks-least), le-leb (shelf .n) 16 (w .desks-most)), (rw (le-leb 1 (shelf .m) (w .cells-least), le-leb (shelf .m) 64 (w .cells-most)), (lt-leb (shelf .n) p here, (le-ltb 3 (shelf .mode p) (w .modes-most p here), tt))))
+      open-if (shelf .n) (shelf .m) p (shelf .mode p)
+      (record {
+        desks-least = w .desks-least;
+        desks-most = w .desks-most;
+        cells-least = w .cells-least;
+        cells-most = w .cells-most;
+        own-below = here;
+        mode-most = w .modes-most p here;
+      })
 
   fresh-desk : DeskInOrder shelf [] p (openOf (shelf .n) (shelf .m) p (shelf .mode p) .desk) (replicate (398 * shelf .n) 0)
   unfolding openOf

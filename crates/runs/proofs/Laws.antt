@@ -1,4 +1,5 @@
 pub mod Cyclic
+pub mod Lists
 pub mod Steps
 pub mod Order
 pub mod Never

@@ -2,9 +2,8 @@
 --   turn-rules : Demand3 document01
 -- Assumes nothing.
 use Prim.Native.Nat.{ℕ, _+_, _-_, _%_, _≤_, _<_}
-use mathlib.Core.Path.{_≡_, refl, sym, ap, _∙_}
+use mathlib.Core.Path.{_≡_, sym, ap, _∙_}
 use mathlib.Core.Logic.{_≢_}
-use mathlib.Core.Bool.{Bool, true, false}
 use mathlib.Core.List.{List}
 use native.Mathlib.Omega.{arith}
 use native.Mathlib.Decide.{decLt}
@@ -13,11 +12,11 @@ use borrow.Author.Tests.{eqb-true}
 use Rattle.answer.specs.Answer.{Answer, answered}
 use Rattle.answer.proofs.Laws.{refused-is-not-answered}
 use Rattle.desk.specs.declared.Desk.{Desk}
-use Rattle.desk.specs.Answers.{Value, holds, waits}
-use Rattle.desk.specs.Calls.{openOf, waitingDesk}
+use Rattle.desk.specs.Answers.{Value, waits}
+use Rattle.desk.specs.Calls.{waitingDesk}
 use Rattle.runs.specs.Calls.{Call, document01, reads}
-use Rattle.runs.specs.Run.{Shelf, Within, State, sheetNo, start, made, after, Run}
-use Rattle.runs.specs.InOrder.{DeskInOrder, InOrder}
+use Rattle.runs.specs.Run.{Shelf, Within, State, sheetNo, start, after, Run}
+use Rattle.runs.specs.InOrder.{InOrder}
 use Rattle.runs.specs.TurnRules.{now, turnOf, HasTurn, Untaken, OneTurn, OneSheet, WaitEnds, Demand3}
 use Rattle.runs.proofs.InOrder.{stays-in-order}
 use Rattle.runs.proofs.Laws.Cyclic.{window, Next, next}

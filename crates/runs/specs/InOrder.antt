@@ -5,7 +5,7 @@
 use mathlib.Core.Path.{_≡_}
 use mathlib.Core.Logic.{_≢_}
 use mathlib.Core.Bool.{true}
-use mathlib.Core.List.{List, []}
+use mathlib.Core.List.{List}
 use Prim.Native.Nat.{ℕ, _*_, _%_, _≤_, _<_}
 use lib.ListN.{length}
 use Rattle.answer.specs.Answer.{refused}
@@ -14,7 +14,7 @@ use Rattle.layout.specs.Values.{AreBytes}
 use Rattle.sheet.specs.Good.{good}
 use Rattle.tray.specs.Tray.{free, sheetAt, holdsGood}
 use Rattle.desk.specs.declared.Desk.{Desk}
-use Rattle.desk.specs.Calls.{sound, lastTurn, modeFor}
+use Rattle.desk.specs.Calls.{sound, modeFor}
 use Rattle.desk.specs.Values.{DeskFits}
 use Rattle.runs.specs.Calls.{Call, document01}
 use Rattle.runs.specs.Run.{Shelf, Within, Sheet, sheetOn, State, sheetNo, start, made, after, Possible, Run, later}

@@ -6,7 +6,7 @@ use mathlib.Core.Logic.{_≢_, _⊎_}
 use mathlib.Core.Bool.{Bool, true, false, cond, _&&_}
 use mathlib.Core.List.{List, [], _∷_}
 use mathlib.Core.Option.{Option, some}
-use Prim.Native.Nat.{ℕ, _+_, _-_, _≤_, _<_}
+use Prim.Native.Nat.{ℕ, _+_, _-_, _<_}
 use lib.Dec.{eqb}
 use lib.ListN.{length}
 use Rattle.answer.specs.Answer.{Answer, refused, answered}
@@ -15,7 +15,6 @@ use Rattle.layout.specs.Layout.{trailerIn}
 use Rattle.cells.specs.Cells.{contentAt}
 use Rattle.sound.specs.Head.{turnDesk, ownTurn}
 use Rattle.tray.specs.Tray.{sheetAt}
-use Rattle.desk.specs.declared.Desk.{Desk}
 use Rattle.desk.specs.Answers.{Value, waits, sent, held, taken}
 use Rattle.desk.specs.Calls.{lastTurn}
 use Rattle.runs.specs.Calls.{Calls, Call, writes, reads, sends, delivers, takes}

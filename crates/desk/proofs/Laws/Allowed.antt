@@ -1,19 +1,21 @@
 -- What is so where a call is carried out: its rules, none of which applies, as facts with a name each, in 01's order. Whoever needs one asks for it
 -- by that name, and not by its place in the list of rules.
 --   OpenAllowed, WriteAllowed, ReadAllowed, SendAllowed, DeliverAllowed, TakeAllowed
---   open-allows, write-allows, read-allows, send-allows, deliver-allows, take-allows
+--   open-allows, write-allows, read-allows, send-allows, deliver-allows, take-allows      they are so where no rule applies
+--   open-if, send-if, take-if                                                             and where they are so, none does
 -- Assumes nothing.
 use Prim.Native.Nat.{ℕ, _+_, _*_, _≤_, _<_}
 use mathlib.Core.Path.{_≡_}
 use mathlib.Core.Logic.{_≢_}
-use mathlib.Core.Bool.{true, false, _&&_}
+use mathlib.Core.Bool.{true, false, not, _&&_}
 use mathlib.Core.List.{List}
 use lib.Dec.{eqb, leb}
 use lib.ListN.{length}
-use borrow.Author.Tests.{eqb-true, eqb-false, leb-true, leb-false, ltb-false, not-false}
+use borrow.Author.Tests.{eqb-true, eqb-false, leb-true, leb-false, ltb-false, not-false, eq-eqb, le-leb, lt-leb, le-ltb}
 use Rattle.answer.specs.Promises.{Silent}
 use Rattle.content.specs.declared.Content.{Content}
 use Rattle.content.specs.Content.{kindOf}
+use Rattle.numbers.specs.Limits.{within}
 use Rattle.layout.specs.Layout.{trailerIn, numbersOf}
 use Rattle.sheet.specs.Good.{good}
 use Rattle.sheet.proofs.Laws.Bools.{and-split}
@@ -23,7 +25,7 @@ use Rattle.tray.specs.Tray.{free, sheetAt, holdsGood}
 use Rattle.pending.specs.Pending.{sheetOf}
 use Rattle.desk.specs.declared.Desk.{Desk}
 use Rattle.desk.specs.Calls.{sound, lastTurn, openRules, writeRules, readRules, sendRules, deliverRules, takeRules, isNext}
-use Rattle.desk.proofs.Laws.Next.{Next, next-says}
+use Rattle.desk.proofs.Laws.Next.{Next, next-says, next-if}
 
 -- a sound record, as its clauses
 abbrev pub SoundDesk : Desk → Type 0
@@ -52,6 +54,12 @@ open-allows n m own mode silent =
       own-below = leb-false n own (silent .1 .1 .0);
       mode-most = ltb-false 3 mode (silent .1 .1 .1 .0);
     }
+
+pub open-if : (n m own mode : ℕ) → OpenAllowed n m own mode → Silent (openRules n m own mode)
+open-if n m own mode a =
+    let desks : not (within 1 16 n) ≡ false = rw (le-leb 1 n (a .desks-least), le-leb n 16 (a .desks-most)) in
+    let cells : not (within 1 64 m) ≡ false = rw (le-leb 1 m (a .cells-least), le-leb m 64 (a .cells-most)) in
+    (desks, (cells, (lt-leb n own (a .own-below), (le-ltb 3 mode (a .mode-most), tt))))
 
 module _ (d : Desk) where
   pub record WriteAllowed (cell : ℕ) (c : Content) : Type 0 where
@@ -96,6 +104,10 @@ module _ (d : Desk) where
         not-last = silent .1 .1 .0;
         room = ltb-false (length buf) (length (sheetOf (d .head) (d .pkind) (d .pday))) (silent .1 .1 .1 .0);
       }
+
+  pub send-if : (buf : List ℕ) → SendAllowed buf → Silent (sendRules d buf)
+  send-if buf a =
+      (rw (a .is-sound), (rw (a .own-turn), (a .not-last, (le-ltb (length buf) (length (sheetOf (d .head) (d .pkind) (d .pday))) (a .room), tt))))
 
   pub record DeliverAllowed (tray s : List ℕ) : Type 0 where
     pub is-sound : sound d ≡ true
@@ -148,3 +160,9 @@ module _ (d : Desk) where
         holds-good = held .0;
         is-next = next-says h x (held .1);
       }
+
+  pub take-if : (tray : List ℕ) → TakeAllowed tray → Silent (takeRules d tray)
+  take-if tray a =
+      let h = d .head in
+      let x = numbersOf (trailerIn (sheetAt tray (turnDesk h))) in
+      (rw (a .is-sound), (rw (eq-eqb (length tray) (398 * h .n) (a .tray-fits)), (a .elsewhere, (a .not-last, (a .not-free, (rw (a .holds-good, next-if h x (a .is-next)), tt))))))

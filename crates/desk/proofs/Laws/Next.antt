@@ -1,9 +1,10 @@
 -- What it says that a sheet is the next to be taken: `isNext` (specs/Calls.antt) as facts.
+--   Next, next-says, next-if      a sheet that passes the test has them, and one that has them passes it
 -- Assumes nothing.
 use mathlib.Core.Path.{_≡_}
 use mathlib.Core.Bool.{true, _&&_}
 use lib.Dec.{eqb}
-use borrow.Author.Tests.{eqb-true}
+use borrow.Author.Tests.{eqb-true, eq-eqb}
 use Rattle.layout.specs.declared.Numbers.{Numbers}
 use Rattle.sheet.proofs.Laws.Bools.{and-split}
 use Rattle.sound.specs.declared.Head.{Head}
@@ -27,3 +28,7 @@ next-says h x e =
       sender = eqb-true _ _ (line .0);
       turn = eqb-true _ _ (line .1);
     }
+
+pub next-if : (h : Head) (x : Numbers) → Next h x → isNext h x ≡ true
+next-if h x n =
+    rw (eq-eqb (x .desks) (h .n) (n .desks), eq-eqb (x .cells) (h .m) (n .cells), eq-eqb (x .sender) (turnDesk h) (n .sender), eq-eqb (x .turn) (h .turn) (n .turn))

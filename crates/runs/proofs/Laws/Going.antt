@@ -3,39 +3,40 @@
 --   can-take              or else its next sheet is sent, and once delivered it takes it
 --   going                 so one of the two
 -- Assumes nothing.
-use Prim.Native.Nat.{ℕ, _+_, _*_, _%_, _≤_, _<_}
-use mathlib.Core.Path.{_≡_, refl, sym, ap, _∙_, subst}
+use Prim.Native.Nat.{ℕ, _*_, _%_, _≤_, _<_}
+use mathlib.Core.Path.{_≡_, refl, sym, ap, _∙_}
 use mathlib.Core.Logic.{_≢_, _⊎_, inl, inr}
-use mathlib.Core.Bool.{Bool, true, false, not, _&&_, false≢true}
+use mathlib.Core.Bool.{true, false, not, false≢true}
 use mathlib.Core.List.{List, [], _∷_}
 use mathlib.Core.Option.{Option}
 use native.Mathlib.Omega.{arith}
 use native.Mathlib.Nat.{mod-lt}
 use native.Mathlib.Decide.{ℕ-discrete}
-use lib.Dec.{eqb, ltb}
+use lib.Dec.{eqb}
 use lib.ListN.{length}
-use borrow.Author.Tests.{eq-eqb, ne-eqb, le-ltb, eqb-true, not-true}
+use borrow.Author.Tests.{eq-eqb, ne-eqb, le-ltb, not-true}
 use Rattle.answer.specs.Answer.{Answer, Rule, refused, answered}
-use Rattle.answer.specs.Promises.{Silent, First, this, later}
+use Rattle.answer.specs.Promises.{First, this, later}
 use Rattle.answer.proofs.Laws.{answered-if}
 use Rattle.content.specs.declared.Content.{Content}
 use Rattle.layout.specs.Layout.{trailerIn}
 use Rattle.sound.specs.Head.{causal, turnDesk}
-use Rattle.tray.specs.Tray.{free, sheetAt, holdsGood, heldIn}
+use Rattle.tray.specs.Tray.{free, sheetAt, heldIn}
 use Rattle.tray.proofs.Laws.Places.{holds-not-free}
-use Rattle.pending.specs.Pending.{pendingEntries, sheetOf}
+use Rattle.pending.specs.Pending.{pendingEntries}
 use Rattle.pending.proofs.Laws.Sending.{sheet-most}
 use Rattle.applying.specs.Applying.{goes, wentOf}
 use Rattle.desk.specs.declared.Desk.{Desk}
 use Rattle.desk.specs.Answers.{Value, sent, held, taken}
 use Rattle.desk.specs.Calls.{lastTurn, sendRules, sendOf, deliverRules, takeRules, entriesTaken, takenDesk, waitedFor, takeOf}
-use Rattle.runs.specs.Calls.{Call, document01, writes, reads, sends, delivers, takes}
+use Rattle.desk.proofs.Laws.Allowed.{SendAllowed, send-if, TakeAllowed, take-if}
+use Rattle.runs.specs.Calls.{document01, delivers, takes}
 use Rattle.runs.specs.Run.{Shelf, Sheet, sheetOn, State, sheetNo, made, put, after}
-use Rattle.runs.specs.InOrder.{SheetInOrder, DeskInOrder, InOrder, PlaceInOrder}
+use Rattle.runs.specs.InOrder.{SheetInOrder, DeskInOrder, InOrder}
 use Rattle.runs.specs.TurnRules.{turnOf, BeforeTheEnd, CanSend, Arrives, is-held, is-there, CanTake}
 use Rattle.runs.proofs.Laws.Steps.{put-same, takenBy, Step, step}
 use Rattle.runs.proofs.Laws.Steps as steps
-use Rattle.runs.proofs.Laws.Order.{some-desks, own-last, near, turn-desk, held-there, NextHeld, next-held, step-in-order}
+use Rattle.runs.proofs.Laws.Order.{own-last, turn-desk, held-there, next-held, step-in-order}
 use Rattle.runs.proofs.Laws.Never.{tray-fits, same-shelf, in-reach, next-is-next}
 
 -- ---- send
@@ -44,18 +45,30 @@ module _ {shelf : Shelf} {line : List Sheet} {p : ℕ} {d : Desk} {tray : List �
   before-end : eqb (d .head .turn) lastTurn ≡ false
   before-end = ne-eqb (d .head .turn) lastTurn (λ e. omega (arith, e))
 
-  sends-now : d .head .turn % shelf .n ≡ p → (buffer : List ℕ) → length buffer ≡ 396 → Silent (sendRules d buffer)
+  sends-now : d .head .turn % shelf .n ≡ p → (buffer : List ℕ) → length buffer ≡ 396 → SendAllowed d buffer
   sends-now own buffer long =
-      let sheet = sheetOf (d .head) (d .pkind) (d .pday) in
-      (rw (o .is-sound), (rw (eq-eqb (turnDesk (d .head)) (d .head .own) (turn-desk o ∙ own ∙ sym (o .own))), (before-end, (le-ltb (length buffer) (length sheet) (omega (arith, sheet-most (d .head) (d .pkind) (d .pday))), tt))))
+      record {
+        is-sound = o .is-sound;
+        own-turn = eq-eqb (turnDesk (d .head)) (d .head .own) (turn-desk o ∙ own ∙ sym (o .own));
+        not-last = before-end;
+        room = omega (arith, sheet-most (d .head) (d .pkind) (d .pday));
+      }
 
   -- ---- take
 
   takes-now : ((k : ℕ) → k < length line → SheetInOrder shelf k (sheetOn line k)) → d .head .turn % shelf .n ≢ p → free tray (turnDesk (d .head)) ≡ false
-      → Silent (takeRules d tray)
+      → TakeAllowed d tray
   takes-now sheets other f =
       let away : turnDesk (d .head) ≢ d .head .own = λ e. other (sym (turn-desk o) ∙ e ∙ o .own) in
-      (rw (o .is-sound), (rw (tray-fits o), (ne-eqb (turnDesk (d .head)) (d .head .own) away, (before-end, (f, (rw (next-is-next o sheets f), tt))))))
+      record {
+        is-sound = o .is-sound;
+        tray-fits = o .tray-long ∙ ap (λ (n : ℕ). 398 * n) (sym (o .n));
+        elsewhere = ne-eqb (turnDesk (d .head)) (d .head .own) away;
+        not-last = before-end;
+        not-free = f;
+        holds-good = next-held o f .holds-good;
+        is-next = next-is-next o sheets f;
+      }
 
 -- ---- deliver
 
@@ -124,7 +137,7 @@ module _ {shelf : Shelf} {s : State} (o : InOrder shelf s) (p : ℕ) (here : p <
   then-taken t later-order low arrival =
       let turn : t .desk p .head .turn ≡ k = ap (λ (y : Desk). y .head .turn) (arrival .0) in
       let full : free (t .tray p) (turnDesk (t .desk p .head)) ≡ false = ap (λ (y : Desk). free (t .tray p) (turnDesk (y .head))) (arrival .0) ∙ arrival .1 in
-      let silent = takes-now (later-order .desks p here) (rw turn low) (later-order .sheets) (rw turn other) full in
+      let silent = take-if (t .desk p) (t .tray p) (takes-now (later-order .desks p here) (rw turn low) (later-order .sheets) (rw turn other) full) in
       let y = t .desk p in
       let es = entriesTaken y (t .tray p) in
       let entries : ℕ = length es in
@@ -156,7 +169,7 @@ module _ {shelf : Shelf} {s : State} (o : InOrder shelf s) (p : ℕ) (here : p <
   can-send e buffer long =
       let d = s .desk p in
       let entries : ℕ = length (pendingEntries (d .pkind) (d .pday)) in
-      (entries, answered-if (sendRules d buffer) (sent (d .head .turn) entries) (sends-now (o .desks p here) low (ap (λ (k : ℕ). k % shelf .n) e ∙ next) buffer long))
+      (entries, answered-if (sendRules d buffer) (sent (d .head .turn) entries) (send-if d buffer (sends-now (o .desks p here) low (ap (λ (k : ℕ). k % shelf .n) e ∙ next) buffer long)))
 
   one-can : CanSend document01 s p ⊎ CanTake document01 s p
   one-can = by-turn (ℕ-discrete (turnOf s p) (length (s .line)))

@@ -3,7 +3,7 @@
 --   never                 none of the six numbers comes
 --   never-comes : NeverComes
 -- Assumes nothing.
-use Prim.Native.Nat.{ℕ, _+_, _*_, _%_, _<_}
+use Prim.Native.Nat.{ℕ, _+_, _*_, _<_}
 use mathlib.Core.Path.{_≡_, refl, sym, ap, _∙_, subst}
 use mathlib.Core.Logic.{_≢_}
 use mathlib.Core.Bool.{Bool, true, false, not, _&&_, _||_, false≢true}
@@ -16,17 +16,17 @@ use Rattle.answer.specs.Answer.{Answer, refused}
 use Rattle.answer.specs.Promises.{First}
 use Rattle.answer.proofs.Laws.{refused-is-not-answered}
 use Rattle.layout.specs.Layout.{trailerIn, numbersOf}
-use Rattle.sheet.specs.Good.{good}
 use Rattle.sound.specs.Head.{turnDesk}
 use Rattle.tray.specs.Tray.{free, sheetAt, holdsGood}
 use Rattle.desk.specs.declared.Desk.{Desk}
 use Rattle.desk.specs.Answers.{Value}
 use Rattle.desk.specs.Calls.{sound, trayFits, isNext}
+use Rattle.desk.proofs.Laws.Next.{Next, next-if}
 use Rattle.keeping.proofs.Laws.Rules.{Off, never-given}
 use Rattle.runs.specs.Calls.{Call, writes, reads, sends, delivers, takes}
-use Rattle.runs.specs.Run.{Shelf, Sheet, sheetOn, State, sheetNo, Possible}
+use Rattle.runs.specs.Run.{Shelf, Sheet, sheetOn, State, Possible}
 use Rattle.runs.specs.InOrder.{SheetInOrder, DeskInOrder, InOrder, Never, NeverComes}
-use Rattle.runs.proofs.Laws.Order.{near, turn-desk, NextHeld, next-held}
+use Rattle.runs.proofs.Laws.Order.{near, turn-desk, next-held}
 use Rattle.runs.proofs.Laws.Steps.{rulesOf, Step, is-refused, is-stored, is-read, is-waiting, is-sent, is-held, is-taken, step}
 
 -- ---- tests that pass
@@ -46,12 +46,11 @@ module _ {shelf : Shelf} {line : List Sheet} {p : ℕ} {d : Desk} {tray : List �
     in-reach sent = lt-leb (d .head .turn + d .head .n) (trailerIn sheet .turn) (omega (arith, near o, o .n, x .turn))
 
   pub next-is-next : ((k : ℕ) → k < length line → SheetInOrder shelf k (sheetOn line k)) → free tray (turnDesk (d .head)) ≡ false
-      → holdsGood tray (turnDesk (d .head)) && isNext (d .head) (numbersOf (trailerIn (sheetAt tray (turnDesk (d .head))))) ≡ true
+      → Next (d .head) (numbersOf (trailerIn (sheetAt tray (turnDesk (d .head)))))
   next-is-next sheets f =
       let z = next-held o f in
-      let k = d .head .turn in
-      let x = sheets k (z .sent) in
-      rw (z .holds-good, z .is, same-shelf k x, eq-eqb (trailerIn (sheetOn line k .bytes) .sender) (turnDesk (d .head)) (x .sender ∙ sym (turn-desk o)), eq-eqb (trailerIn (sheetOn line k .bytes) .turn) k (x .turn))
+      let x = sheets (d .head .turn) (z .sent) in
+      rw (z .is) (record { desks = x .desks ∙ sym (o .n); cells = x .cells ∙ sym (o .m); sender = x .sender ∙ sym (turn-desk o); turn = x .turn })
 
 -- ---- the six
 
@@ -70,6 +69,12 @@ module _ (shelf : Shelf) (s : State) (o : InOrder shelf s) (k : ℕ) (b : barred
     no-12 : not (trayFits (s .desk p) (s .tray p)) ≡ false
     no-12 = rw (tray-fits (o .desks p here))
 
+    no-21 : free (s .tray p) (turnDesk (s .desk p .head)) ≡ false
+        → not (holdsGood (s .tray p) (turnDesk (s .desk p .head)) && isNext (s .desk p .head) (numbersOf (trailerIn (sheetAt (s .tray p) (turnDesk (s .desk p .head)))))) ≡ false
+    no-21 f =
+        let mine = o .desks p here in
+        rw (next-held mine f .holds-good, next-if (s .desk p .head) _ (next-is-next mine (o .sheets) f))
+
   off : (c : Call) → Possible (shelf .n) s c → Off k (rulesOf s c)
   off (writes p cell c) here =
       (λ e. no-5 (here .0), λ q. (other 6 refl, λ q. (other 7 refl, λ q. (other 8 refl, λ q. tt))))
@@ -80,7 +85,7 @@ module _ (shelf : Shelf) (s : State) (o : InOrder shelf s) (k : ℕ) (b : barred
       let x = o .sheets j (here .1) in
       (λ e. no-5 (here .0), λ q. (λ e. no-12 (here .0), λ q. (λ e. rw (x .is-good), λ q. (λ e. rw (same-shelf (o .desks p (here .0)) j x), λ q. (other 15 refl, λ q. (other 16 refl, λ q. (λ e. in-reach (o .desks p (here .0)) j x (here .1), λ q. (other 18 refl, λ q. tt))))))))
   off (takes p) here =
-      (λ e. no-5 here, λ q. (λ e. no-12 here, λ q. (other 19 refl, λ q. (other 10 refl, λ q. (other 20 refl, λ f. (λ e. rw (next-is-next (o .desks p here) (o .sheets) f), λ q. tt))))))
+      (λ e. no-5 here, λ q. (λ e. no-12 here, λ q. (other 19 refl, λ q. (other 10 refl, λ q. (other 20 refl, λ f. (λ e. no-21 here f, λ q. tt))))))
 
   same-number : (i j : ℕ) → _≡_ {A = Answer Value} (refused i) (refused j) → i ≡ j
   same-number i j e = cc

@@ -5,46 +5,43 @@
 --   next-held             what the place of the desk whose turn it is holds is the desk's next sheet
 --   step-in-order         a step keeps a state in order
 -- Assumes nothing.
-use Prim.Native.Nat.{ℕ, suc, _+_, _*_, _%_, _≤_, _<_}
-use mathlib.Core.Path.{_≡_, refl, sym, ap, _∙_, subst}
+use Prim.Native.Nat.{ℕ, suc, _+_, _%_, _≤_, _<_}
+use mathlib.Core.Path.{_≡_, sym, ap, _∙_, subst}
 use mathlib.Core.Logic.{_≢_}
-use mathlib.Core.Bool.{Bool, true, false, not, cond, false≢true}
+use mathlib.Core.Bool.{Bool, true, false, cond, false≢true}
 use mathlib.Core.List.{List, [], _∷_, _++_}
 use native.Mathlib.Omega.{arith}
 use native.Mathlib.Nat.{mod-lt}
 use native.Mathlib.Numerals.{add-one}
 use native.Mathlib.Decide.{ℕ-discrete, decLt}
-use lib.Dec.{eqb}
 use lib.ListN.{length, length-append, List·getD-append}
 use lib.Seq.{getD-append-seam}
 use mir.Syntax.{w32}
 use mir.Val.{SFits}
-use borrow.Author.Tests.{eqb-true, eqb-false, ltb-false, not-false}
+use borrow.Author.Tests.{eqb-true}
 use Rattle.answer.specs.Answer.{Answer}
 use Rattle.answer.specs.Promises.{Silent}
 use Rattle.answer.proofs.Laws.{changed-if}
 use Rattle.content.specs.declared.Content.{Content}
 use Rattle.content.specs.Content.{dayOf}
-use Rattle.layout.specs.Layout.{trailerIn, numbersOf}
+use Rattle.layout.specs.Layout.{trailerIn}
 use Rattle.layout.specs.declared.Numbers.{Numbers}
-use Rattle.layout.specs.Values.{AreBytes}
-use Rattle.sheet.specs.Good.{good}
 use Rattle.sheet.proofs.Laws.Good.{good-within}
-use Rattle.sound.specs.Head.{turnDesk, ownTurn}
-use Rattle.sound.proofs.Laws.Sound.{Sound, sound-says}
+use Rattle.sound.specs.Head.{turnDesk}
 use Rattle.tray.specs.Tray.{start, free, sheetAt, holdsGood, heldIn, clearedIn}
 use Rattle.tray.proofs.Laws.Places.{place-there, held-long, cleared-long, held-found, held-holds, cleared-free, SamePlace, held-others, cleared-others, same-free, same-holds, same-sheet-held}
 use Rattle.tray.proofs.Laws.Bytes.{held-bytes, cleared-bytes}
 use Rattle.pending.proofs.Laws.Bytes.{sheet-bytes}
 use Rattle.desk.specs.declared.Desk.{Desk}
 use Rattle.desk.specs.Answers.{Value}
-use Rattle.desk.specs.Calls.{sound, lastTurn, writeRules, writtenDesk, writeOf, readRules, mustWait, waitingDesk, readOf, sendRules, sentDesk, sendOf, deliverRules, takeRules, entriesTaken, takenDesk, takeOf}
+use Rattle.desk.specs.Calls.{sound, writeRules, writtenDesk, writeOf, readRules, mustWait, waitingDesk, readOf, sendRules, sentDesk, sendOf, deliverRules, takeRules, entriesTaken, takenDesk, takeOf}
 use Rattle.desk.specs.Values.{DeskFits}
+use Rattle.desk.proofs.Laws.Allowed.{SoundDesk, desk-says, SendAllowed, send-allows, deliver-allows, take-allows}
 use Rattle.keeping.specs.Promises.{SameNumbers, SameTurn}
 use Rattle.keeping.proofs.Keeping.{keeps-sound, keeps-fits, numbers-stay}
 use Rattle.keeping.proofs.Laws.Sheets.{sheet-good, sheet-numbers}
-use Rattle.runs.specs.Calls.{Call, writes, reads, sends, delivers, takes}
-use Rattle.runs.specs.Run.{Shelf, Sheet, sheetOn, State, sheetNo, put, Possible}
+use Rattle.runs.specs.Calls.{Call}
+use Rattle.runs.specs.Run.{Shelf, Sheet, sheetOn, State, put, Possible}
 use Rattle.runs.specs.InOrder.{SheetInOrder, PlaceInOrder, is-free, holds-sheet, DeskInOrder, InOrder}
 use Rattle.runs.proofs.Laws.Cyclic.{window, Next, next}
 use Rattle.runs.proofs.Laws.Steps.{put-same, put-other, put-own, withDesk, sheetBy, Step, is-refused, is-stored, is-read, is-waiting, is-sent, is-held, is-taken}
@@ -52,8 +49,8 @@ use Rattle.runs.proofs.Laws.Steps.{put-same, put-other, put-own, withDe
 -- ---- a desk in order
 
 module _ {shelf : Shelf} {line : List Sheet} {p : ℕ} {d : Desk} {tray : List ℕ} (o : DeskInOrder shelf line p d tray) where
-  pub desk-sound : Sound (d .head) (d .kind) (d .day) (d .pkind) (d .pday)
-  desk-sound = sound-says {h = d .head} {kind = d .kind} {day = d .day} {pkind = d .pkind} {pday = d .pday} (o .is-sound)
+  pub desk-sound : SoundDesk d
+  desk-sound = desk-says d (o .is-sound)
 
   pub some-desks : 0 < shelf .n
   some-desks = omega (arith, desk-sound .desks-least, o .n)
@@ -181,7 +178,7 @@ module _ {shelf : Shelf} {line : List Sheet} {p : ℕ} {d : Desk} {tray : List �
       }
     where
       due : d .head .turn ≤ k
-      due = rw (x .turn) at (ltb-false (trailerIn sheet .turn) (d .head .turn) (silent .1 .1 .1 .1 .1 .0))
+      due = rw (x .turn) at (deliver-allows d tray sheet silent .due)
 
       by-place : (r : ℕ) → r < shelf .n → Dec (r ≡ q) → PlaceInOrder (shelf .n) line (d .head .turn) (heldIn tray q sheet) r
       by-place r l (yes e) =
@@ -216,7 +213,7 @@ module _ {shelf : Shelf} {line : List Sheet} {p : ℕ} {d : Desk} {tray : List �
         m = o .m;
         own = o .own;
         mode = o .mode;
-        no-further = omega (arith, next-held (silent .1 .1 .1 .1 .0) .sent);
+        no-further = omega (arith, next-held (take-allows d tray silent .not-free) .sent);
         past-own = λ k l e. omega (arith, o .past-own k l e);
         tray-long = cleared-long tray (turnDesk (d .head)) ∙ o .tray-long;
         tray-bytes = cleared-bytes tray (turnDesk (d .head)) (o .tray-bytes);
@@ -290,12 +287,12 @@ module _ (line : List Sheet) (y : Sheet) where
 
 module _ {shelf : Shelf} {line : List Sheet} {p : ℕ} {d : Desk} {tray : List ℕ} (o : DeskInOrder shelf line p d tray)
     (buffer : List ℕ) (silent : Silent (sendRules d buffer)) where
-  own-turn : ownTurn (d .head) ≡ true
-  own-turn = not-false (ownTurn (d .head)) (silent .1 .0)
+  allowed : SendAllowed d buffer
+  allowed = send-allows d buffer silent
 
   -- the sender is the desk whose turn it is, and its turn number is how many were sent before
   pub sender-is : d .head .turn % shelf .n ≡ p
-  sender-is = sym (turn-desk o) ∙ eqb-true _ _ own-turn ∙ o .own
+  sender-is = sym (turn-desk o) ∙ eqb-true _ _ (allowed .own-turn) ∙ o .own
 
   pub number-is : d .head .turn ≡ length line
   number-is = own-last o sender-is
@@ -305,11 +302,11 @@ module _ {shelf : Shelf} {line : List Sheet} {p : ℕ} {d : Desk} {tray : List �
 
   sent-sheet : SheetInOrder shelf (length line) y
   sent-sheet =
-      let numbers = sheet-numbers d (o .fits) (desk-sound o) own-turn (silent .1 .1 .0) in
+      let numbers = sheet-numbers d (o .fits) (desk-sound o) (allowed .own-turn) (allowed .not-last) in
       let at : p ≡ length line % shelf .n = sym sender-is ∙ ap (λ (j : ℕ). j % shelf .n) number-is in
       record {
         from = at;
-        is-good = sheet-good d (o .fits) (desk-sound o) own-turn (silent .1 .1 .0);
+        is-good = sheet-good d (o .fits) (desk-sound o) (allowed .own-turn) (allowed .not-last);
         are-bytes = let z = desk-sound o in sheet-bytes (d .head) (d .pkind) (d .pday) (z .own-below) (z .desks-most) (z .cells-most) (z .pkind-is);
         sender = ap (λ (x : Numbers). x .sender) numbers ∙ o .own ∙ at;
         desks = ap (λ (x : Numbers). x .desks) numbers ∙ o .n;

@@ -10,16 +10,17 @@ use mathlib.Core.List.{List, [], _∷_, _++_}
 use native.Mathlib.Omega.{arith}
 use native.Mathlib.Decide.{ℕ-discrete}
 use lib.ListN.{length}
-use Rattle.answer.specs.Answer.{Answer, answered}
+use Rattle.answer.specs.Answer.{Answer}
 use Rattle.answer.specs.Promises.{Silent}
 use Rattle.sound.specs.Head.{turnDesk}
-use Rattle.tray.specs.Tray.{sheetAt, clearedIn}
+use Rattle.tray.specs.Tray.{clearedIn}
 use Rattle.desk.specs.declared.Desk.{Desk}
 use Rattle.desk.specs.Answers.{Value}
 use Rattle.desk.specs.Calls.{writtenDesk, waitingDesk, sentDesk, takeRules, entriesTaken, takenDesk}
-use Rattle.runs.specs.Calls.{Call, document01, writes, reads, sends, delivers, takes}
+use Rattle.desk.proofs.Laws.Allowed.{take-allows}
+use Rattle.runs.specs.Calls.{Call, document01, sends, takes}
 use Rattle.runs.specs.Run.{Shelf, Sheet, sheetOn, State, sheetNo, made, put, after, Possible, Run, later}
-use Rattle.runs.specs.InOrder.{DeskInOrder, InOrder}
+use Rattle.runs.specs.InOrder.{InOrder}
 use Rattle.runs.specs.TurnRules.{turnOf, OneOf, first, further, TakesSheet, takes-it}
 use Rattle.runs.proofs.Laws.Steps.{put-same, put-other, sheetBy, Step, is-refused, is-stored, is-read, is-waiting, is-sent, is-held, is-taken, step}
 use Rattle.runs.proofs.Laws.Order.{sender-is, more-long, more-same, next-held, step-in-order}
@@ -92,7 +93,7 @@ module _ {shelf : Shelf} {s : State} (o : InOrder shelf s) (p : ℕ) (here : p <
       by-desk : Dec (p ≡ q) → Moves (shelf .n) s p (takes q) (record { desk = put (s .desk) q (takenDesk (s .desk q) (entriesTaken (s .desk q) (s .tray q))); tray = put (s .tray) q (clearedIn (s .tray q) (turnDesk (s .desk q .head))); line = s .line })
       by-desk (yes z) =
           let silent′ : Silent (takeRules (s .desk p) (s .tray p)) = rw (← z) at silent in
-          let held = next-held (o .desks p here) (silent′ .1 .1 .1 .1 .0) in
+          let held = next-held (o .desks p here) (take-allows (s .desk p) (s .tray p) silent′ .not-free) in
           rw (← z) (by-take (takes-it _ (rw (← z) at e) (held .is)) (held .sent) (ap turn-in (put-same (s .desk) p (takenDesk (s .desk p) (entriesTaken (s .desk p) (s .tray p))))))
       by-desk (no z) = stays (other-turn q (takenDesk (s .desk q) (entriesTaken (s .desk q) (s .tray q))) z)
 

@@ -3,33 +3,32 @@
 --   wait-ended            once the desk has had as many accepted takes as there are numbers before its next own one, one of them answers
 -- Assumes nothing.
 use Prim.Native.Nat.{ℕ, _+_, _-_, _%_, _≤_, _<_}
-use mathlib.Core.Path.{_≡_, refl, sym, ap, _∙_, subst}
+use mathlib.Core.Path.{_≡_, refl, sym, ap, _∙_}
 use mathlib.Core.Logic.{_≢_}
-use mathlib.Core.Bool.{Bool, true, false, not, cond, _&&_, and-false, false≢true}
+use mathlib.Core.Bool.{Bool, true, false, cond, _&&_, and-false, false≢true}
 use mathlib.Core.List.{List, [], _∷_}
-use mathlib.Core.Option.{Option, none, some}
+use mathlib.Core.Option.{Option, some}
 use native.Mathlib.Omega.{arith}
 use native.Mathlib.Decide.{ℕ-discrete}
-use lib.Dec.{eqb}
 use lib.ListN.{length}
-use borrow.Author.Tests.{eqb-true, eqb-false, eq-eqb, ne-eqb, not-false}
+use borrow.Author.Tests.{eqb-true, eq-eqb, ne-eqb}
 use Rattle.answer.specs.Answer.{Answer, answered}
-use Rattle.answer.specs.Promises.{Silent}
 use Rattle.content.specs.declared.Content.{Content}
 use Rattle.layout.specs.declared.Entry.{Entry}
 use Rattle.cells.specs.Cells.{contentAt}
-use Rattle.sound.specs.Head.{causal, turnDesk, ownTurn, readWaits, waitCell}
+use Rattle.sound.specs.Head.{causal, turnDesk, readWaits, waitCell}
 use Rattle.tray.specs.Tray.{clearedIn}
 use Rattle.applying.specs.Applying.{goes, wentOf}
 use Rattle.desk.specs.declared.Desk.{Desk}
 use Rattle.desk.specs.Answers.{Value, waits, taken}
-use Rattle.desk.specs.Calls.{nextHead, readEnds, writeRules, writtenDesk, readRules, waitingDesk, sendRules, sentDesk, takeRules, entriesTaken, takenDesk, waitedFor}
-use Rattle.runs.specs.Calls.{Call, document01, writes, reads, sends, delivers, takes}
-use Rattle.runs.specs.Run.{Shelf, State, made, put, after, Possible, Run, later}
-use Rattle.runs.specs.InOrder.{DeskInOrder, InOrder}
+use Rattle.desk.specs.Calls.{readEnds, writtenDesk, waitingDesk, sentDesk, entriesTaken, takenDesk, waitedFor}
+use Rattle.desk.proofs.Laws.Allowed.{write-allows, read-allows, send-allows}
+use Rattle.runs.specs.Calls.{Call, document01, takes}
+use Rattle.runs.specs.Run.{Shelf, State, made, put, after, Run}
+use Rattle.runs.specs.InOrder.{InOrder}
 use Rattle.runs.specs.TurnRules.{turnOf, OneOf, first, further, takeOfDesk, accepted, takesBy, AnswersRead, answers-it}
 use Rattle.runs.proofs.Laws.Steps.{put-same, put-other, takenBy, Step, is-refused, is-stored, is-read, is-waiting, is-sent, is-held, is-taken, step}
-use Rattle.runs.proofs.Laws.Order.{desk-sound, sender-is, step-in-order}
+use Rattle.runs.proofs.Laws.Order.{desk-sound, step-in-order}
 
 -- what a call does to a desk at which a read waits: nothing, or it is an accepted take of that desk
 data Passes (s : State) (p : ℕ) : Call → Answer Value → State → Type 0 where
@@ -46,16 +45,16 @@ module _ {shelf : Shelf} {s : State} (o : InOrder shelf s) (p : ℕ) (here : p <
   passes (is-stored q cell c silent) = as-it-was refl (put-other (s .desk) q (writtenDesk (s .desk q) cell c) p apart)
     where
       apart : p ≢ q
-      apart z = false≢true (sym (silent .1 .1 .1 .0) ∙ ap (λ (r : ℕ). readWaits (s .desk r .head)) (sym z) ∙ still)
+      apart z = false≢true (sym (write-allows (s .desk q) cell c silent .none-waits) ∙ ap (λ (r : ℕ). readWaits (s .desk r .head)) (sym z) ∙ still)
   passes (is-read q cell silent e) = as-it-was refl refl
   passes (is-waiting q cell silent e) = as-it-was refl (put-other (s .desk) q (waitingDesk (s .desk q) cell) p apart)
     where
       apart : p ≢ q
-      apart z = false≢true (sym (silent .1 .1 .0) ∙ ap (λ (r : ℕ). readWaits (s .desk r .head)) (sym z) ∙ still)
+      apart z = false≢true (sym (read-allows (s .desk q) cell silent .none-waits) ∙ ap (λ (r : ℕ). readWaits (s .desk r .head)) (sym z) ∙ still)
   passes (is-sent q buffer silent) = as-it-was refl (put-other (s .desk) q (sentDesk (s .desk q)) p apart)
     where
       apart : p ≢ q
-      apart z = desk-sound (o .desks p here) .waits w .elsewhere (eqb-true _ _ (not-false (ownTurn (s .desk p .head)) (rw (← z) at silent .1 .0)))
+      apart z = desk-sound (o .desks p here) .waits w .elsewhere (eqb-true _ _ (send-allows (s .desk p) buffer (rw (← z) at silent) .own-turn))
   passes (is-held q k silent) = as-it-was refl refl
   passes (is-taken q silent) = by-desk (ℕ-discrete p q)
     where
