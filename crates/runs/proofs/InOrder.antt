@@ -8,6 +8,7 @@ use mathlib.Core.List.{List, [], _∷_}
 use native.Mathlib.Omega.{arith}
 use lib.ListN.{getD, replicate, length-replicate}
 use borrow.Author.Tests.{eq-eqb}
+use Rattle.answer.specs.Answer.{answered}
 use Rattle.answer.specs.Promises.{Silent}
 use Rattle.answer.proofs.Laws.{answered-if, changed-if}
 use Rattle.layout.proofs.Bytes.{zeros-bytes}
@@ -37,8 +38,8 @@ clear-free n q = eq-eqb (lengthAt (replicate n 0) q) 0 (rw (clear n (start q), c
 -- ---- a desk that was opened
 
 module _ (shelf : Shelf) (w : Within shelf) (p : ℕ) (here : p < shelf .n) where
-  opens : Silent (openRules (shelf .n) (shelf .m) p (shelf .mode p))
-  opens =
+  allowed : Silent (openRules (shelf .n) (shelf .m) p (shelf .mode p))
+  allowed =
       open-if (shelf .n) (shelf .m) p (shelf .mode p)
       (record {
         desks-least = w .desks-least;
@@ -49,13 +50,17 @@ module _ (shelf : Shelf) (w : Within shelf) (p : ℕ) (here : p < shelf .n) wher
         mode-most = w .modes-most p here;
       })
 
+  opens : openOf (shelf .n) (shelf .m) p (shelf .mode p) .answer ≡ answered opened
+  unfolding openOf
+  opens = answered-if (openRules (shelf .n) (shelf .m) p (shelf .mode p)) opened allowed
+
   fresh-desk : DeskInOrder shelf [] p (openOf (shelf .n) (shelf .m) p (shelf .mode p) .desk) (replicate (398 * shelf .n) 0)
   unfolding openOf
   fresh-desk =
       let rules = openRules (shelf .n) (shelf .m) p (shelf .mode p) in
-      let is = changed-if rules (blankDesk (freshHead 0 0 0 0)) (blankDesk (freshHead (shelf .n) (shelf .m) p (modeFor (shelf .mode p)))) opens in
+      let is = changed-if rules (blankDesk (freshHead 0 0 0 0)) (blankDesk (freshHead (shelf .n) (shelf .m) p (modeFor (shelf .mode p)))) allowed in
       record {
-        is-sound = open-is-sound .sound-record (shelf .n) (shelf .m) p (shelf .mode p) (answered-if rules opened opens);
+        is-sound = open-is-sound .sound-record (shelf .n) (shelf .m) p (shelf .mode p) opens;
         fits = open-is-sound .record-fits (shelf .n) (shelf .m) p (shelf .mode p);
         n = ap (λ (x : Desk). x .head .n) is;
         m = ap (λ (x : Desk). x .head .m) is;
@@ -83,4 +88,4 @@ run-in-order shelf s [] o r = o
 run-in-order shelf s (c ∷ cs) o r = run-in-order shelf (after document01 s c) cs (call-in-order shelf s c o (r .0)) (r .1)
 
 pub stays-in-order : RunsStayInOrder
-stays-in-order = record { fresh = fresh; call = call-in-order; run = run-in-order }
+stays-in-order = record { opens = opens; fresh = fresh; call = call-in-order; run = run-in-order }

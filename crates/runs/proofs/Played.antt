@@ -16,9 +16,9 @@ use Rattle.tray.specs.Tray.{sheetAt}
 use Rattle.desk.specs.Calls.{lastTurn}
 use Rattle.runs.specs.Calls.{Call, document01, reads, delivers, takes}
 use Rattle.runs.specs.Run.{Within, State, sheetNo, start}
-use Rattle.runs.specs.TurnRules.{now, turnOf, HasTurn, CanSend, is-held, AnswersRead, answers-it}
+use Rattle.runs.specs.TurnRules.{now, turnOf, HasTurn, CanSend, is-held, answers-it}
 use Rattle.runs.specs.Played.{twoDesks, threeDesks, lent, listingCalls, listingAnswers, ListingIsARun, HoldsUntaken, oneSheet, twoSheets, TwoHold, beforeTheRead, whileItWaits, untilAnswered, waitAnswers, sinceTheRead, LongestWait, sheetOnTheLine, NobodySends, threeSheets, threeSheetsAnswers, Furthest, RunsPlayed}
-use Rattle.runs.proofs.Laws.Tested.{computing, below-two, is-possible, is-run, last-is, someSeen, seesTake, no-take, no-answer}
+use Rattle.runs.proofs.Laws.Tested.{computing, below-two, is-possible, is-run, answered-last, someSeen, seesTake, no-take, no-answer}
 
 pub two-within : Within twoDesks
 two-within =
@@ -97,8 +97,7 @@ longest-wait =
       not-yet = no-answer document01 0 1 sinceTheRead whileItWaits refl;
       two-takes = refl;
       at-last =
-          last-is document01 (AnswersRead document01 0 1) sinceTheRead whileItWaits (takes 0)
-          (answers-it 2 1 1 (Day (pos 9)) refl refl);
+          answered-last document01 0 1 sinceTheRead whileItWaits (takes 0) refl (answers-it 2 1 1 (Day (pos 9)) refl refl);
     }
 
 nobody-sends : NobodySends

@@ -8,13 +8,14 @@ use mathlib.Core.Bool.{true}
 use mathlib.Core.List.{List}
 use Prim.Native.Nat.{ℕ, _*_, _%_, _≤_, _<_}
 use lib.ListN.{length}
-use Rattle.answer.specs.Answer.{refused}
+use Rattle.answer.specs.Answer.{refused, answered}
 use Rattle.layout.specs.Layout.{trailerIn}
 use Rattle.layout.specs.Values.{AreBytes}
 use Rattle.sheet.specs.Good.{good}
 use Rattle.tray.specs.Tray.{free, sheetAt, holdsGood}
 use Rattle.desk.specs.declared.Desk.{Desk}
-use Rattle.desk.specs.Calls.{sound, modeFor}
+use Rattle.desk.specs.Answers.{opened}
+use Rattle.desk.specs.Calls.{sound, modeFor, openOf}
 use Rattle.desk.specs.Values.{DeskFits}
 use Rattle.runs.specs.Calls.{Call, document01}
 use Rattle.runs.specs.Run.{Shelf, Within, Sheet, sheetOn, State, sheetNo, start, made, after, Possible, Run, later}
@@ -57,8 +58,9 @@ pub record InOrder (shelf : Shelf) (s : State) : Type 0 where
   pub sheets : (k : ℕ) → k < length (s .line) → SheetInOrder shelf k (sheetNo s k)
   pub desks : (p : ℕ) → p < shelf .n → DeskInOrder shelf (s .line) p (s .desk p) (s .tray p)
 
--- a fresh shelf is in order, and every call of a run keeps it so; so it is in order after every run
+-- every open is carried out; a fresh shelf is in order, and every call of a run keeps it so; so it is in order after every run
 pub record RunsStayInOrder : Type 0 where
+  pub opens : (shelf : Shelf) → Within shelf → (p : ℕ) → p < shelf .n → openOf (shelf .n) (shelf .m) p (shelf .mode p) .answer ≡ answered opened
   pub fresh : (shelf : Shelf) → Within shelf → InOrder shelf (start shelf)
   pub call : (shelf : Shelf) (s : State) (c : Call) → InOrder shelf s → Possible (shelf .n) s c → InOrder shelf (after document01 s c)
   pub run : (shelf : Shelf) (s : State) (cs : List Call) → InOrder shelf s → Run document01 (shelf .n) s cs

@@ -14,7 +14,7 @@ use Rattle.tray.specs.Tray.{sheetAt}
 use Rattle.desk.specs.Answers.{Value, stored, holds, waits, sent, held, taken}
 use Rattle.runs.specs.Calls.{Call, document01, writes, reads, sends, delivers, takes}
 use Rattle.runs.specs.Run.{Shelf, Within, State, sheetNo, start, made, after, Possible, Run, answers}
-use Rattle.runs.specs.TurnRules.{now, turnOf, BeforeTheEnd, HasTurn, OneOf, Untaken, CanSend, CanTake, takesBy, AnswersRead}
+use Rattle.runs.specs.TurnRules.{now, turnOf, BeforeTheEnd, HasTurn, Untaken, CanSend, CanTake, takesBy, ReadAnswered}
 
 -- ---- what the runs share
 
@@ -155,9 +155,9 @@ pub record LongestWait : Type 0 where
   pub plays : Plays threeDesks (beforeTheRead ++ reads 0 1 ∷ untilAnswered) waitAnswers
   pub read-waits : made document01 (now document01 threeDesks beforeTheRead) (reads 0 1) .answer ≡ answered waits
   pub one-take : takesBy document01 0 sinceTheRead whileItWaits ≡ 1
-  pub not-yet : OneOf document01 (AnswersRead document01 0 1) sinceTheRead whileItWaits → ⊥
+  pub not-yet : ReadAnswered document01 0 1 sinceTheRead whileItWaits → ⊥
   pub two-takes : takesBy document01 0 sinceTheRead untilAnswered ≡ 2
-  pub at-last : OneOf document01 (AnswersRead document01 0 1) sinceTheRead untilAnswered
+  pub at-last : ReadAnswered document01 0 1 sinceTheRead untilAnswered
 
 -- ---- "some desk can send into 396 bytes, or can take its next sheet": there may be no desk that can send
 

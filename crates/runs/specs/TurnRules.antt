@@ -13,7 +13,7 @@ use Rattle.answer.specs.Answer.{Answer, refused, answered}
 use Rattle.content.specs.declared.Content.{Content}
 use Rattle.layout.specs.Layout.{trailerIn}
 use Rattle.cells.specs.Cells.{contentAt}
-use Rattle.sound.specs.Head.{turnDesk, ownTurn}
+use Rattle.sound.specs.Head.{turnDesk, ownTurn, readWaits, waitCell}
 use Rattle.tray.specs.Tray.{sheetAt}
 use Rattle.desk.specs.Answers.{Value, waits, sent, held, taken}
 use Rattle.desk.specs.Calls.{lastTurn}
@@ -96,12 +96,24 @@ unfoldable pub takesBy : Calls → ℕ → State → List Call → ℕ
 takesBy calls p s [] = 0
 takesBy calls p s (c ∷ cs) = cond (takeOfDesk p c && accepted (made calls s c .answer)) 1 0 + takesBy calls p (after calls s c) cs
 
+-- at desk p a read of this cell waits
+abbrev pub ReadWaits : State → ℕ → ℕ → Type 0
+ReadWaits s p cell = (readWaits (s .desk p .head) ≡ true) × (waitCell (s .desk p .head) ≡ cell)
+
 -- an accepted take of desk p that answers the read of this cell: with what the shelf then has there
 pub data AnswersRead (calls : Calls) (p cell : ℕ) (s : State) : Call → Type 0 where
   answers-it : (turn entries applied : ℕ) (c : Content)
       → made calls s (takes p) .answer ≡ answered (taken turn entries applied (some c))
       → (let d = after calls s (takes p) .desk p in c ≡ contentAt (d .kind) (d .day) cell)
       → AnswersRead calls p cell s (takes p)
+
+-- one of these calls answers it, and until then it waits
+pub data ReadAnswered (calls : Calls) (p cell : ℕ) : State → List Call → Type 0 where
+  at-this : {s : State} {c : Call} {cs : List Call} → AnswersRead calls p cell s c → ReadAnswered calls p cell s (c ∷ cs)
+  waits-on : {s : State} {c : Call} {cs : List Call}
+      → ReadWaits (after calls s c) p cell
+      → ReadAnswered calls p cell (after calls s c) cs
+      → ReadAnswered calls p cell s (c ∷ cs)
 
 -- ---- the demand
 
@@ -130,13 +142,13 @@ GoesOn calls shelf cs =
     → (p : ℕ) × (p < shelf .n) × (CanSend calls (now calls shelf cs) p ⊎ CanTake calls (now calls shelf cs) p)
 
 -- 5. "A read that waits is answered by its desk's accepted take number n-1 at the latest, counted from that read, for n desks.": of any further
--- calls among which that desk has n-1 accepted takes, one is a take that answers it
+-- calls among which that desk has n-1 accepted takes, one answers it
 abbrev pub WaitEnds : Calls → Shelf → List Call → Type 0
 WaitEnds calls shelf cs =
     (p cell : ℕ) → p < shelf .n → made calls (now calls shelf cs) (reads p cell) .answer ≡ answered waits
     → (ds : List Call) → Run calls (shelf .n) (after calls (now calls shelf cs) (reads p cell)) ds
     → takesBy calls p (after calls (now calls shelf cs) (reads p cell)) ds ≡ shelf .n - 1
-    → OneOf calls (AnswersRead calls p cell) (after calls (now calls shelf cs) (reads p cell)) ds
+    → ReadAnswered calls p cell (after calls (now calls shelf cs) (reads p cell)) ds
 
 -- The premise "While no desk's turn number has reached its end" is needed in the fourth part alone: the others are so from then on, too.
 pub record TurnRules (calls : Calls) (shelf : Shelf) (cs : List Call) : Type 0 where

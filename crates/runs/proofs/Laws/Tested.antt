@@ -2,7 +2,7 @@
 --   computing                  a proof with this on its `unfolding` line computes what calls answer and leave
 --   below-two, below-three     what is so of each of the least two or three numbers
 --   is-possible, is-run        a call is one that a run may have next; so is every one of these calls
---   last-is                    the last of these calls is such a call
+--   answered-last              the last of these calls answers a read, and all others let it wait
 --   no-take, no-answer         none of these calls takes a sheet at desk p; none answers a read of desk p
 -- Assumes nothing.
 use mathlib.Core.Path.{_≡_, refl, sym, _∙_}
@@ -11,16 +11,17 @@ use mathlib.Core.List.{List, [], _∷_, _++_}
 use mathlib.Core.Option.{none, some}
 use Prim.Native.Nat.{ℕ, zero, suc, _<_, _^_}
 use native.Mathlib.Omega.{arith}
-use lib.Dec.{ltb}
+use lib.Dec.{eqb, ltb}
 use lib.Signed.{mag}
 use lib.ListN.{length}
-use borrow.Author.Tests.{ltb-true, eq-eqb}
+use borrow.Author.Tests.{ltb-true, eqb-true, eq-eqb}
 use Rattle.answer.specs.Answer.{Answer, refused, answered}
 use Rattle.content.specs.Content.{dayOf}
 use Rattle.laying.specs.Laying.{laidOver}
 use Rattle.sheet.specs.Good.{good}
 use Rattle.cells.specs.Cells.{placeAt, each, putIf}
 use Rattle.cells.specs.Cells as cells
+use Rattle.sound.specs.Head.{readWaits, waitCell}
 use Rattle.sound.specs.Sound.{soundOf}
 use Rattle.tray.specs.Tray.{holdsGood, heldIn, clearedIn}
 use Rattle.pending.specs.Pending.{pendingBelow, sheetOf}
@@ -29,7 +30,7 @@ use Rattle.desk.specs.Answers.{Value, opened, stored, holds, waits, sent, held,
 use Rattle.desk.specs.Calls.{openOf, writeOf, mustWait, readOf, sendOf, deliverOf, takeOf}
 use Rattle.runs.specs.Calls.{Calls, Call, writes, reads, sends, delivers, takes}
 use Rattle.runs.specs.Run.{State, start, made, put, after, Possible, Run, later, answers}
-use Rattle.runs.specs.TurnRules.{OneOf, first, further, TakesSheet, takes-it, AnswersRead, answers-it, takeOfDesk, takesBy}
+use Rattle.runs.specs.TurnRules.{OneOf, first, further, TakesSheet, takes-it, AnswersRead, answers-it, ReadAnswered, at-this, waits-on, takeOfDesk, takesBy}
 
 -- the definitions of the calls and of a run, and those that they rest on: to unfold this is to unfold all of them
 unfoldable pub computing : Unit {0}
@@ -84,14 +85,25 @@ is-run calls n s (c ∷ cs) e =
     let t = both (possible n s c) _ e in
     (is-possible n s c (t .0), is-run calls n (after calls s c) cs (t .1))
 
--- ---- the last of these calls
+-- ---- a read that waits
 
-pub last-is : (calls : Calls) (such : State → Call → Type 0) (s : State) (cs : List Call) (c : Call)
-    → such (later calls s cs) c
-    → OneOf calls such s (cs ++ c ∷ [])
+abbrev pub waitsOn : Calls → (p cell : ℕ) → State → List Call → Bool
+waitsOn calls p cell s [] = true
+waitsOn calls p cell s (c ∷ cs) =
+    let h = after calls s c .desk p .head in
+    (readWaits h && eqb (waitCell h) cell) && waitsOn calls p cell (after calls s c) cs
+
+pub answered-last : (calls : Calls) (p cell : ℕ) (s : State) (cs : List Call) (c : Call)
+    → waitsOn calls p cell s cs ≡ true
+    → AnswersRead calls p cell (later calls s cs) c
+    → ReadAnswered calls p cell s (cs ++ c ∷ [])
 unfolding later
-last-is calls such s [] c h = first h
-last-is calls such s (d ∷ cs) c h = further (last-is calls such (after calls s d) cs c h)
+answered-last calls p cell s [] c e h = at-this h
+answered-last calls p cell s (d ∷ cs) c e h =
+    let at = after calls s d .desk p .head in
+    let t = both (readWaits at && eqb (waitCell at) cell) _ e in
+    let w = both (readWaits at) _ (t .0) in
+    waits-on (w .0, eqb-true (waitCell at) cell (w .1)) (answered-last calls p cell (after calls s d) cs c (t .1) h)
 
 -- ---- none of these calls
 
@@ -138,11 +150,15 @@ module _ (calls : Calls) (p : ℕ) where
       sees : (s : State) (c : Call) → TakesSheet calls p sheet s c → seesTake p s c ≡ true
       sees s c (takes-it v e h) = eq-eqb p p refl
 
+  one-answers : {cell : ℕ} {s : State} {cs : List Call} → ReadAnswered calls p cell s cs → OneOf calls (AnswersRead calls p cell) s cs
+  one-answers (at-this {s} {c} {cs} h) = first {s = s} {c = c} h
+  one-answers (waits-on w h) = further (one-answers h)
+
   pub no-answer : (cell : ℕ) (s : State) (cs : List Call)
       → someSeen calls (seesAnswer calls p) s cs ≡ false
-      → OneOf calls (AnswersRead calls p cell) s cs
+      → ReadAnswered calls p cell s cs
       → ⊥
-  no-answer cell s cs = unseen calls (AnswersRead calls p cell) (seesAnswer calls p) sees
+  no-answer cell s cs e a = unseen calls (AnswersRead calls p cell) (seesAnswer calls p) sees e (one-answers a)
     where
       sees : (s : State) (c : Call) → AnswersRead calls p cell s c → seesAnswer calls p s c ≡ true
       sees s c (answers-it turn entries applied content e h) = rw (eq-eqb p p refl, e)

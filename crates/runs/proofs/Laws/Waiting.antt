@@ -1,5 +1,4 @@
 -- A read that waits: nothing but an accepted take of its desk moves the desk's turn number, and the take that brings the desk's own turn answers it.
---   Waits                 a read of this cell waits at desk p
 --   wait-ended            once the desk has had as many accepted takes as there are numbers before its next own one, one of them answers
 -- Assumes nothing.
 use Prim.Native.Nat.{ℕ, _+_, _-_, _%_, _≤_, _<_}
@@ -26,7 +25,7 @@ use Rattle.desk.proofs.Laws.Allowed.{write-allows, read-allows, send-allows}
 use Rattle.runs.specs.Calls.{Call, document01, takes}
 use Rattle.runs.specs.Run.{Shelf, State, made, put, after, Run}
 use Rattle.runs.specs.InOrder.{InOrder}
-use Rattle.runs.specs.TurnRules.{turnOf, OneOf, first, further, takeOfDesk, accepted, takesBy, AnswersRead, answers-it}
+use Rattle.runs.specs.TurnRules.{turnOf, takeOfDesk, accepted, takesBy, ReadWaits, AnswersRead, answers-it, ReadAnswered, at-this, waits-on}
 use Rattle.runs.proofs.Laws.Steps.{put-same, put-other, takenBy, Step, is-refused, is-stored, is-read, is-waiting, is-sent, is-held, is-taken, step}
 use Rattle.runs.proofs.Laws.Order.{desk-sound, step-in-order}
 
@@ -91,27 +90,30 @@ module _ {shelf : Shelf} {s : State} (o : InOrder shelf s) (p : ℕ) (here : p <
 
 -- ---- a list of calls
 
+it-waits : (s : State) (p cell : ℕ) → s .desk p .head .wait ≡ cell + 1 → ReadWaits s p cell
+it-waits s p cell w = (rw (ne-eqb (s .desk p .head .wait) 0 (λ z. omega (arith, w, z))), omega (arith, w))
+
 pub wait-ended : (shelf : Shelf) (p : ℕ) → p < shelf .n → (cell k : ℕ) → k % shelf .n ≡ p → (s : State) (ds : List Call) → InOrder shelf s → Run document01 (shelf .n) s ds
     → s .desk p .head .wait ≡ cell + 1 → turnOf s p < k → k ≤ turnOf s p + takesBy document01 p s ds
-    → OneOf document01 (AnswersRead document01 p cell) s ds
+    → ReadAnswered document01 p cell s ds
 unfolding Run takesBy
 wait-ended shelf p here cell k own s [] o r w least most = absurd (omega arith)
 wait-ended shelf p here cell k own s (c ∷ ds) o r w least most =
     by-pass c refl (passes o p here (λ z. omega (arith, w, z)) (step s c)) most
-    (λ w′ l m. further (wait-ended shelf p here cell k own (after document01 s c) ds (step-in-order o (r .0) (step s c)) (r .1) w′ l m))
+    (λ w′ l m. waits-on (it-waits (after document01 s c) p cell w′) (wait-ended shelf p here cell k own (after document01 s c) ds (step-in-order o (r .0) (step s c)) (r .1) w′ l m))
   where
     by-pass : (c : Call) {a : Answer Value} → made document01 s c .answer ≡ a → Passes s p c a (after document01 s c)
         → k ≤ turnOf s p + (cond (takeOfDesk p c && accepted a) 1 0 + takesBy document01 p (after document01 s c) ds)
         → (after document01 s c .desk p .head .wait ≡ cell + 1 → turnOf (after document01 s c) p < k → k ≤ turnOf (after document01 s c) p + takesBy document01 p (after document01 s c) ds
-        → OneOf document01 (AnswersRead document01 p cell) s (c ∷ ds))
-        → OneOf document01 (AnswersRead document01 p cell) s (c ∷ ds)
+        → ReadAnswered document01 p cell s (c ∷ ds))
+        → ReadAnswered document01 p cell s (c ∷ ds)
     by-pass c e (as-it-was miss same) m rest =
         let turn : turnOf (after document01 s c) p ≡ turnOf s p = ap (λ (x : Desk). x .head .turn) same in
         rest (ap (λ (x : Desk). x .head .wait) same ∙ w) (omega (arith, turn)) (omega (arith, turn, rw miss at m))
     by-pass c e (by-take same) m rest = by-end (readEnds (s .desk p .head)) refl
       where
-        by-end : (t : Bool) → readEnds (s .desk p .head) ≡ t → OneOf document01 (AnswersRead document01 p cell) s (takes p ∷ ds)
-        by-end true ends = first {s = s} {c = takes p} (answers-now o p here cell w e same ends)
+        by-end : (t : Bool) → readEnds (s .desk p .head) ≡ t → ReadAnswered document01 p cell s (takes p ∷ ds)
+        by-end true ends = at-this (answers-now o p here cell w e same ends)
         by-end false ends =
             let on = not-yet o p here cell w ends in
             let turn : turnOf (after document01 s (takes p)) p ≡ turnOf s p + 1 = ap (λ (x : Desk). x .head .turn) same in
