@@ -9,7 +9,7 @@ use Prim.Native.Nat.{ℕ, zero, suc, _≤_, _<_}
 use native.Mathlib.Omega.{arith}
 use lib.IntN.{ℤ, pos}
 use lib.ListN.{length, drop, replicate}
-use borrow.Author.Tests.{eqb-true, eqb-false, ne-eqb, le-ltb, not-false, not-true}
+use borrow.Author.Tests.{eqb-true, eqb-false, ne-eqb, le-ltb, not-true}
 use Rattle.answer.specs.Answer.{answered}
 use Rattle.answer.specs.Promises.{Silent}
 use Rattle.answer.proofs.Laws.{refused-is-not-answered, answered-only-if, answered-if, changed-if}
@@ -23,7 +23,6 @@ use Rattle.cells.specs.Cells.{placeAt, kindAt, contentAt, blank, filled, each, 
 use Rattle.cells.specs.Cells as cells
 use Rattle.sound.specs.Head.{sequential, causal, ownTurn, readWaits, waitCell}
 use Rattle.sound.specs.Sound.{soundOf}
-use Rattle.sound.proofs.Laws.Sound.{sound-says}
 use Rattle.tray.specs.Tray.{holdsGood, heldIn, clearedIn}
 use Rattle.pending.specs.Pending.{pendingBelow, pendingEntries, numbersFor, sheetOf}
 use Rattle.applying.specs.Applying.{goes, laid, wentOf}
@@ -31,6 +30,7 @@ use Rattle.applying.proofs.Laws.{went-within}
 use Rattle.desk.specs.declared.Desk.{Desk}
 use Rattle.desk.specs.Answers.{Value, Done, opened, stored, holds, waits, sent, held, taken}
 use Rattle.desk.specs.Calls.{sound, lastTurn, nextHead, readEnds, entriesTaken, takenDesk, waitedFor, sentDesk, readRules, sendRules, takeRules, mustWait, openOf, writeOf, readOf, sendOf, deliverOf, takeOf}
+use Rattle.desk.proofs.Laws.Allowed.{desk-says, send-allows}
 use Rattle.examples.specs.Examples.{wrote, sends, delivers, takes, takesNine}
 use Rattle.examples.specs.Examples as desks
 use Rattle.examples.specs.WrongDesks.{Refuses, NotAllRefused, NotAllBlank, NotAllUnchanged, sheet0, sheet1, bothHeld, firstTake, secondTake, SecondTakeIsTrue, Counts, oneOfTwo, WrongDesksShutOut, shelfAfter, EmptySheetSent, ReadEnded, SlipsRuledOut}
@@ -272,9 +272,8 @@ module _ (d : Desk) (i : ℕ) where
 no-send-while-waiting : (d : Desk) (buf : List ℕ) (v : Value) → readWaits (d .head) ≡ true → sendOf d buf .answer ≡ answered v → ⊥
 unfolding sendOf
 no-send-while-waiting d buf v w e =
-    let silent = answered-only-if (sendRules d buf) _ v e .0 in
-    let s = sound-says {h = d .head} {kind = d .kind} {day = d .day} {pkind = d .pkind} {pday = d .pday} (not-false _ (silent .0)) in
-    s .waits (eqb-false (d .head .wait) 0 (not-true _ w)) .elsewhere (eqb-true _ _ (not-false _ (silent .1 .0)))
+    let allowed = send-allows d buf (answered-only-if (sendRules d buf) _ v e .0) in
+    desk-says d (allowed .is-sound) .waits (eqb-false (d .head .wait) 0 (not-true _ w)) .elsewhere (eqb-true _ _ (allowed .own-turn))
 
 module _ (d : Desk) (tray : List ℕ) (t n k : ℕ) (w : Option Content) (waiting : readWaits (d .head) ≡ true) (own : ownTurn (nextHead (d .head) 0) ≡ true)
     (e : takeOf d tray .answer ≡ answered (taken t n k w)) where

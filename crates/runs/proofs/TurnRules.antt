@@ -1,7 +1,7 @@
 -- Demand 3 (specs/TurnRules.antt) of document 01's calls: after every run all is in order, and then each part follows.
 --   turn-rules : Demand3 document01
 -- Assumes nothing.
-use Prim.Native.Nat.{ℕ, _+_, _-_, _%_, _≤_, _<_}
+use Prim.Native.Nat.{ℕ, _+_, _%_, _≤_, _<_}
 use mathlib.Core.Path.{_≡_, sym, ap, _∙_}
 use mathlib.Core.Logic.{_≢_}
 use mathlib.Core.List.{List}

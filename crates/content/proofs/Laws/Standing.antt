@@ -11,7 +11,7 @@ use lib.IntN.{ℤ, pos, negsuc, sucℤ, predℤ, negℤ, _+ℤ_, _-ℤ_, negℤ-
 use lib.Signed.{ltZ}
 use borrow.Author.Tests.{le-ltb, lt-ltb, ltb-true, ltb-false}
 use Rattle.answer.proofs.Laws.{again, apart}
-use Rattle.content.specs.declared.Content.the-variants.{Open, Day}
+use Rattle.content.specs.declared.Content.the-variants.{Day}
 use Rattle.content.specs.declared.Standing.{Standing}
 use Rattle.content.specs.declared.Standing.the-variants as standing
 use Rattle.content.specs.Standing.{Stands, unknown, no-end, left, standingOn, cleared, past, saidStanding}

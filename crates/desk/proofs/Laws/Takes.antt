@@ -3,7 +3,7 @@
 --   take-turn, take-desk, take-room             what is asked on the way
 --   taken-entries       the entries as the code reads them are those of the sheet in the place
 -- Assumes nothing.
-use Prim.Native.Nat.{ℕ, _+_, _*_, _-_, _<_, _≤_}
+use Prim.Native.Nat.{ℕ, _+_, _*_, _<_, _≤_}
 use mathlib.Core.Path.{_≡_, refl, sym, ap, _∙_}
 use mathlib.Core.Bool.{Bool, true, false, cond, not, _&&_}
 use mathlib.Core.List.{List, [], _∷_}
@@ -17,7 +17,7 @@ use lib.Seq.{ext-getD, getD-take, getD-drop, length-take-le}
 use borrow.Author.Tests.{eqb-true, eqb-false, le-leb, not-false}
 use mir.Syntax.{w8}
 use mir.Val.{Fits}
-use Rattle.answer.specs.Answer.{Answer, Rule, answered, _if_}
+use Rattle.answer.specs.Answer.{Rule, answered, _if_}
 use Rattle.answer.specs.Promises.{Silent}
 use Rattle.answer.specs.Parts.{numberOf, Numbered}
 use Rattle.answer.proofs.Laws.{silent-if-0, first-of-both, second-of-both}
@@ -26,12 +26,10 @@ use Rattle.numbers.specs.Numbers.{at1}
 use Rattle.layout.specs.Layout.{entryOf, entriesOf, trailerIn, numbersOf}
 use Rattle.layout.proofs.Laws.{entries-count, entry-of-entries}
 use Rattle.sheet.specs.Reading.{noEntry}
-use Rattle.sheet.proofs.Laws.Bools.{and-split}
 use Rattle.sheet.proofs.Laws.Good.{good-length}
 use Rattle.cells.specs.Cells.{contentAt}
 use Rattle.sound.specs.declared.Head.{Head}
 use Rattle.sound.specs.Head.{causal, turnDesk, ownTurn, waitCell}
-use Rattle.sound.proofs.Laws.Sound.{sound-says}
 use Rattle.tray.specs.Tray.{start, lengthAt, free, sheetAt, holdsGood, placeOf, clearedIn}
 use Rattle.tray.proofs.Laws.Places.{place-there, holds-says}
 use Rattle.applying.specs.Applying.{goes, wentOf, entriesIn, Applies}
@@ -42,6 +40,7 @@ use Rattle.desk.specs.declared.steps.Looked.{Looked}
 use Rattle.desk.specs.Answers.{Value, taken, said, outcome}
 use Rattle.desk.specs.Calls.{lastTurn, sound, trayFits, nextHead, isNext, takeRules, entriesTaken, readEnds, takenDesk, waitedFor, takeOf}
 use Rattle.desk.specs.Parts.{takeNumber, lookedAt, takenAnswer}
+use Rattle.desk.proofs.Laws.Allowed.{desk-says, TakeAllowed, take-allows}
 use Rattle.desk.proofs.Laws.Writes.{call-carried-out, call-refused}
 
 -- ---- entries, read from a sheet or from what goes on behind it
@@ -133,7 +132,7 @@ module _ (d : Desk) (tray : List ℕ) where
 
       desks : (1 ≤ d .head .n) × (d .head .n ≤ 16)
       unfolding early
-      desks = let s = sound-says {h = d .head} {kind = d .kind} {day = d .day} {pkind = d .pkind} {pday = d .pday} (not-false _ (silent .0)) in (s .desks-least, s .desks-most)
+      desks = let s = desk-says d (not-false (sound d) (silent .0)) in (s .desks-least, s .desks-most)
 
       desk-below : turnDesk (d .head) < d .head .n
       desk-below = mod-lt (d .head .turn) (omega (arith, desks .0))
@@ -163,20 +162,17 @@ module _ (d : Desk) (tray : List ℕ) where
             call-refused (takeRules d tray) d tray value (takenDesk d (entriesTaken d tray)) (clearedIn tray (turnDesk (d .head))) (l .number) rest-is h
 
         module _ (found : l .number ≡ 0) where
-          all-silent : Silent (takeRules d tray)
-          all-silent = silent-if-0 (takeRules d tray) take-numbered (rest-is ∙ found)
-
-          held : holdsGood tray (turnDesk (d .head)) ≡ true
-          held = and-split (holdsGood tray (turnDesk (d .head))) (isNext (d .head) (numbersOf (trailerIn (sheetAt tray (turnDesk (d .head)))))) (not-false _ (all-silent .1 .1 .1 .1 .1 .0)) .0
+          allowed : TakeAllowed d tray
+          allowed = take-allows d tray (silent-if-0 (takeRules d tray) take-numbered (rest-is ∙ found))
 
           count : l .entries ≡ trailerIn (sheetAt tray (turnDesk (d .head))) .entries
           count =
               ap (λ (x : Looked). x .entries) looks
               ∙ ap (λ (p : ℕ). lookedAt (d .head) tray p .entries) qis
-              ∙ looked-entries (d .head) tray (turnDesk (d .head)) held (all-silent .1 .1 .1 .1 .0)
+              ∙ looked-entries (d .head) tray (turnDesk (d .head)) (allowed .holds-good) (allowed .not-free)
 
           these : entriesIn (drop (start q + 2) tray) (l .entries) ≡ entriesTaken d tray
-          these = rw (qis, count) (taken-entries tray (turnDesk (d .head)) held)
+          these = rw (qis, count) (taken-entries tray (turnDesk (d .head)) (allowed .holds-good))
 
           number-of-entries : l .entries ≡ length (entriesTaken d tray)
           number-of-entries = count ∙ sym (entries-count (trailerIn (sheetAt tray (turnDesk (d .head))) .entries) (sheetAt tray (turnDesk (d .head))))

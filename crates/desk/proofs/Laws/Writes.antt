@@ -2,28 +2,26 @@
 -- applies is 0.
 --   makings             a set for `search`
 -- Assumes nothing.
-use Prim.Native.Nat.{ℕ, _<_, _≤_, _^_}
+use Prim.Native.Nat.{ℕ, _<_, _^_}
 use mathlib.Core.Path.{_≡_, refl, sym, _∙_}
 use mathlib.Core.Bool.{Bool, true, false, cond, _&&_}
 use mathlib.Core.List.{List, []}
 use native.Mathlib.Omega.{arith}
-use lib.Dec.{eqb, leb}
+use lib.Dec.{eqb}
 use lib.IntN.{ℤ}
 use lib.Signed.{mag}
 use mir.Syntax.{w32}
 use mir.Val.{toZ, ofZ}
 use mir.Facts.{toZ-ofZ}
-use borrow.Author.Tests.{eqb-true, eqb-false, lt-ltb, leb-false, leb-true, ltb-false, not-false}
-use Rattle.answer.specs.Answer.{Answer, Rule, refused, answered, answer}
+use borrow.Author.Tests.{eqb-true, eqb-false, lt-ltb}
+use Rattle.answer.specs.Answer.{Rule, refused, answered, answer}
 use Rattle.answer.specs.Parts.{numberOf, Numbered}
 use Rattle.answer.proofs.Laws.{silent-if-0, first-if-number, answered-if, changed-if, refused-if, unchanged-if}
 use Rattle.content.specs.declared.Content.{Content}
 use Rattle.content.specs.Content.{kindOf, dayOf}
 use Rattle.cells.specs.Cells.{contentAt, putIf}
 use Rattle.cells.proofs.Laws.{put-off}
-use Rattle.sheet.proofs.Laws.Bools.{and-split}
 use Rattle.sound.specs.declared.Head.{Head}
-use Rattle.sound.proofs.Laws.Sound.{sound-says}
 use Rattle.desk.specs.declared.Desk.{Desk}
 use Rattle.desk.specs.declared.Outcome.{Outcome}
 use Rattle.desk.specs.declared.Answer as declared
@@ -31,6 +29,7 @@ use Rattle.desk.specs.declared.Answer.the-variants as answers
 use Rattle.desk.specs.Answers.{Value, Done, opened, stored, holds, waits, outcome, call}
 use Rattle.desk.specs.Calls.{sound, openRules, blankDesk, freshHead, modeFor, openOf, writeRules, writtenDesk, writeOf, readRules, mustWait, waitingDesk, readOf}
 use Rattle.desk.specs.Parts.{openNumber, writeNumber, readNumber, given, openedHead, waitsFor, waitAt, readAnswer}
+use Rattle.desk.proofs.Laws.Allowed.{desk-says, open-allows, read-allows}
 use Rattle.desk.proofs.Laws.Steps.{waits-are}
 
 -- ---- a call by its number
@@ -101,12 +100,8 @@ module _ (n m own mode : ℕ) where
   pub open-fits : {number : ℕ} → number ≡ openNumber n m own mode → number ≡ 0 → (n < 256) × ((m < 256) × ((own < 256) × (mode < 256)))
   unfolding openNumber
   open-fits e z =
-      let silent = silent-if-0 (openRules n m own mode) open-numbered (sym e ∙ z) in
-      let desks : n ≤ 16 = leb-true n 16 (and-split (leb 1 n) (leb n 16) (not-false _ (silent .0)) .1) in
-      let cells : m ≤ 64 = leb-true m 64 (and-split (leb 1 m) (leb m 64) (not-false _ (silent .1 .0)) .1) in
-      let owns : own < n = leb-false n own (silent .1 .1 .0) in
-      let modes : mode ≤ 3 = ltb-false 3 mode (silent .1 .1 .1 .0) in
-      (omega arith, (omega arith, (omega arith, omega arith)))
+      let allowed = open-allows n m own mode (silent-if-0 (openRules n m own mode) open-numbered (sym e ∙ z)) in
+      (omega (arith, allowed .desks-most), (omega (arith, allowed .cells-most), (omega (arith, allowed .own-below, allowed .desks-most), omega (arith, allowed .mode-most))))
 
   abbrev opened-with : ℕ → Outcome
   opened-with k = record { answer = given k answers.Opened; desk = blankDesk (openedHead k n m own mode) }
@@ -142,9 +137,8 @@ module _ (d : Desk) (cell : ℕ) where
 
   cell-below : numberOf (readRules d cell) ≡ 0 → cell < 64
   cell-below e =
-      let silent = silent-if-0 (readRules d cell) read-numbered e in
-      let s = sound-says {h = d .head} {kind = d .kind} {day = d .day} {pkind = d .pkind} {pday = d .pday} (not-false _ (silent .0)) in
-      omega (arith, leb-false (d .head .m) cell (silent .1 .0), s .cells-most)
+      let allowed = read-allows d cell (silent-if-0 (readRules d cell) read-numbered e) in
+      omega (arith, allowed .cell-below, desk-says d (allowed .is-sound) .cells-most)
 
   read-made : (k : ℕ) (t u : Bool) → eqb k 0 ≡ t → mustWait d cell ≡ u → numberOf (readRules d cell) ≡ k
       → outcome (read-with k (eqb k 0 && mustWait d cell)) [] ≡ readOf d cell

@@ -1,24 +1,20 @@
 -- A delivery that is carried out brings a sheet into the receiving buffer, and changes nothing else.
 -- Assumes nothing.
-use Prim.Native.Nat.{ℕ, _*_, _+_, _≤_}
-use mathlib.Core.Path.{_≡_, refl, sym, subst, subst₂}
-use mathlib.Core.Bool.{true}
+use Prim.Native.Nat.{ℕ, _+_, _≤_}
+use mathlib.Core.Path.{refl, sym, subst, subst₂}
 use mathlib.Core.List.{List}
 use native.Mathlib.Omega.{arith}
-use lib.Dec.{eqb}
 use lib.ListN.{length}
-use borrow.Author.Tests.{eqb-true, not-false}
 use Rattle.answer.specs.Promises.{Silent}
 use Rattle.answer.proofs.Laws.{answered-only-if, changed-if}
 use Rattle.layout.specs.Layout.{trailerIn}
-use Rattle.sheet.specs.Good.{good}
-use Rattle.sheet.proofs.Laws.Bools.{and-split}
 use Rattle.sheet.proofs.Laws.Good.{good-trailer-is-fair, good-within}
 use Rattle.tray.specs.Tray.{start, heldIn}
 use Rattle.tray.proofs.Laws.Places.{place-there, held-found, held-holds, held-others}
 use Rattle.desk.specs.declared.Desk.{Desk}
 use Rattle.desk.specs.Answers.{Value, held}
 use Rattle.desk.specs.Calls.{deliverRules, deliverOf}
+use Rattle.desk.proofs.Laws.Allowed.{deliver-allows}
 use Rattle.figure.specs.Promises.{Arrival, DeliverSteps, holds-it, DeliverIsAnArrival}
 use Rattle.figure.proofs.Laws.Takes.{received-stays}
 
@@ -29,11 +25,10 @@ deliver-is-an-arrival d tray s v e =
     let q = trailerIn s .sender in
     let carried-out = answered-only-if rules held v e in
     let silent : Silent rules = carried-out .0 in
-    let long : length tray ≡ 398 * d .head .n = eqb-true _ _ (not-false _ (silent .1 .0)) in
-    let g : good s ≡ true = not-false _ (silent .1 .1 .0) in
-    let desks : trailerIn s .desks ≡ d .head .n = eqb-true _ _ (and-split (eqb (trailerIn s .desks) (d .head .n)) (eqb (trailerIn s .cells) (d .head .m)) (not-false _ (silent .1 .1 .1 .0)) .0) in
+    let allowed = deliver-allows d tray s silent in
+    let g = allowed .sheet-good in
     let fair = good-trailer-is-fair s g in
-    let room : start q + 398 ≤ length tray = place-there tray (d .head .n) q long (omega (arith, fair .sender-below, desks)) in
+    let room : start q + 398 ≤ length tray = place-there tray (d .head .n) q (allowed .tray-fits) (omega (arith, fair .sender-below, allowed .same-desks)) in
     let few : length s ≤ 396 = good-within s g .1 in
     let there = held-found tray q s few room in
     let arrived : Arrival d tray s d (heldIn tray q s) =

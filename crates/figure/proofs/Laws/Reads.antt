@@ -20,6 +20,7 @@ use Rattle.sound.specs.Head.{ownTurn, turnDesk, readWaits}
 use Rattle.desk.specs.declared.Desk.{Desk}
 use Rattle.desk.specs.Answers.{Value, holds, waits}
 use Rattle.desk.specs.Calls.{readRules, mustWait, waitingDesk, readOf}
+use Rattle.desk.proofs.Laws.Allowed.{read-allows}
 use Rattle.figure.specs.Figure1.{Model, sequential, causal, cache, ∅, Waits, blocks, read, block}
 use Rattle.figure.specs.Map.{modelOf, processOf}
 use Rattle.figure.specs.Promises.{StepOf, ReadSteps, returns, begins-to-wait, ReadIsAStep}
@@ -112,7 +113,7 @@ read-is-a-step d tray cell v e =
     silent = carried-out .0
 
     quiet : processOf d tray .blocked ≡ none
-    quiet = not-blocked d tray (silent .1 .1 .0)
+    quiet = not-blocked d tray (read-allows d cell silent .none-waits)
 
     by-test : (t : Bool) → mustWait d cell ≡ t
         → ReadSteps d tray cell (cond (mustWait d cell) (waitingDesk d cell) d) (cond (mustWait d cell) waits (holds shown))

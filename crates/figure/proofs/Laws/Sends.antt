@@ -1,7 +1,7 @@
 -- A send that is carried out is Figure 1's send_updates(): the sheet in the buffer carries updates_p, and no read is blocked.
 --   pending-carried          the pending entries, as a set, are updates_p
 -- Assumes nothing.
-use Prim.Native.Nat.{ℕ, zero, suc, _+_, _<_, _≤_}
+use Prim.Native.Nat.{ℕ, zero, suc, _<_, _≤_}
 use mathlib.Core.Path.{_≡_, refl, sym, ap, _∙_, fun-ext, subst, subst₂}
 use mathlib.Core.Bool.{Bool, true, false, cond, not}
 use mathlib.Core.List.{List, [], _∷_, _++_}
@@ -9,30 +9,28 @@ use mathlib.Core.Option.{Option, none, some}
 use native.Mathlib.Omega.{arith}
 use native.Mathlib.Nat.{mod-add-mod}
 use lib.Dec.{eqb, ltb}
-use lib.IntN.{ℤ, pos}
+use lib.IntN.{ℤ}
 use lib.ListN.{length, drop}
 use mir.Syntax.{w32}
 use mir.Val.{SFits}
 use mir.Facts.{toZ-ofZ}
-use borrow.Author.Tests.{eqb-true, eqb-false, ltb-true, ltb-false, lt-ltb, le-ltb, not-false}
-use Rattle.answer.specs.Answer.{answered}
+use borrow.Author.Tests.{eqb-true, eqb-false, ltb-true, ltb-false, lt-ltb, le-ltb}
 use Rattle.answer.specs.Promises.{Silent}
 use Rattle.answer.proofs.Laws.{answered-only-if, changed-if}
 use Rattle.content.specs.declared.Content.{Content}
 use Rattle.content.specs.Content.{contentOf}
 use Rattle.layout.specs.declared.Entry.{Entry}
-use Rattle.layout.specs.Layout.{contentIn, trailerIn, numbersOf}
+use Rattle.layout.specs.Layout.{contentIn}
 use Rattle.cells.specs.Cells.{kindAt, dayAt, contentAt, filled}
 use Rattle.cells.proofs.Laws.{no-place}
 use Rattle.sound.specs.Head.{turnDesk, ownTurn, readWaits}
-use Rattle.sound.specs.Sound.{dayFits}
-use Rattle.sound.proofs.Laws.Sound.{Sound, sound-says}
-use Rattle.sound.proofs.Laws.Days.{same-day}
-use Rattle.pending.specs.Pending.{entryIn, pendingBelow, pendingEntries, numbersFor, sheetOf}
+use Rattle.sound.proofs.Laws.Sound.{Sound}
+use Rattle.pending.specs.Pending.{entryIn, pendingBelow, pendingEntries, sheetOf}
 use Rattle.desk.specs.declared.Desk.{Desk}
 use Rattle.desk.specs.Answers.{Value, sent}
 use Rattle.desk.specs.Calls.{lastTurn, sendRules, sentDesk, sendOf}
 use Rattle.desk.specs.Values.{DeskFits}
+use Rattle.desk.proofs.Laws.Allowed.{desk-says, send-allows}
 use Rattle.keeping.proofs.Laws.Sheets.{sheet-good, sheet-numbers, sheet-entries}
 use Rattle.figure.specs.Figure1.{broadcasts, send}
 use Rattle.figure.specs.Map.{processOf, updatesOf, updatesIn, carried}
@@ -139,9 +137,10 @@ send-is-a-step d tray buf v fits e =
     let count = length (pendingEntries (d .pkind) (d .pday)) in
     let carried-out = answered-only-if rules (sent (d .head .turn) count) v e in
     let silent : Silent rules = carried-out .0 in
-    let s = sound-says {h = d .head} {kind = d .kind} {day = d .day} {pkind = d .pkind} {pday = d .pday} (not-false _ (silent .0)) in
-    let own = not-false _ (silent .1 .0) in
-    let more = silent .1 .1 .0 in
+    let allowed = send-allows d buf silent in
+    let s = desk-says d (allowed .is-sound) in
+    let own = allowed .own-turn in
+    let more = allowed .not-last in
     let step : SendStep d tray buf (d .head .turn) count (sentDesk d) (bytes ++ drop (length bytes) buf) =
     record {
       turn-number = refl;

@@ -9,26 +9,26 @@ use native.Mathlib.Omega.{arith}
 use native.Mathlib.Nat.{mod-add-mod}
 use lib.Dec.{eqb}
 use lib.ListN.{length}
-use borrow.Author.Tests.{eqb-true, eqb-false, ltb-true, lt-ltb, not-false}
+use borrow.Author.Tests.{eqb-true, eqb-false, ltb-true, lt-ltb}
 use Rattle.answer.specs.Promises.{Silent}
 use Rattle.answer.proofs.Laws.{answered-only-if, changed-if}
 use Rattle.content.specs.declared.Content.{Content}
 use Rattle.layout.specs.declared.Entry.{Entry}
-use Rattle.layout.specs.Layout.{trailerIn, numbersOf}
+use Rattle.layout.specs.Layout.{trailerIn}
 use Rattle.layout.proofs.Laws.{entries-count}
 use Rattle.sheet.specs.Good.{good, every, rising, below, kindAndDay}
 use Rattle.sheet.proofs.Laws.Bools.{and-split}
 use Rattle.sheet.proofs.Laws.Good.{good-entries-are}
 use Rattle.cells.specs.Cells.{contentAt}
 use Rattle.sound.specs.Head.{causal, turnDesk, ownTurn, readWaits, waitCell}
-use Rattle.sound.proofs.Laws.Sound.{Sound, sound-says}
+use Rattle.sound.proofs.Laws.Sound.{Sound}
 use Rattle.tray.specs.Tray.{start, free, sheetAt, holdsGood, clearedIn}
 use Rattle.tray.proofs.Laws.Places.{holds-says, holds-not-free, cleared-free, cleared-others, SamePlace, same-holds, same-sheet-held}
 use Rattle.applying.specs.Applying.{goes, wentOf}
 use Rattle.desk.specs.declared.Desk.{Desk}
 use Rattle.desk.specs.Answers.{Value, taken}
-use Rattle.desk.specs.Calls.{nextHead, isNext, takeRules, entriesTaken, takenDesk, waitedFor, takeOf}
-use Rattle.desk.proofs.Laws.Next.{next-says}
+use Rattle.desk.specs.Calls.{nextHead, takeRules, entriesTaken, takenDesk, waitedFor, takeOf}
+use Rattle.desk.proofs.Laws.Allowed.{desk-says, take-allows}
 use Rattle.figure.specs.Figure1.{Process, without, reads, finish, applies, apply}
 use Rattle.figure.specs.Map.{processOf, updatesIn, updatesOf, received}
 use Rattle.figure.specs.Promises.{StepOf, Finishes, nothing-to-finish, finishes, TakeStep, TakeSteps, takes, TakeIsAStep}
@@ -142,13 +142,13 @@ take-is-a-step d tray v fits e =
     let went = wentOf (goes (causal (d .head)) (d .pkind)) es in
     let carried-out = answered-only-if rules (taken (d .head .turn) (length es) went (waitedFor (d .head) (takenDesk d es))) v e in
     let silent : Silent rules = carried-out .0 in
-    let s = sound-says {h = d .head} {kind = d .kind} {day = d .day} {pkind = d .pkind} {pday = d .pday} (not-false _ (silent .0)) in
-    let held = and-split (holdsGood tray q) (isNext (d .head) (numbersOf (trailerIn (sheetAt tray q)))) (not-false _ (silent .1 .1 .1 .1 .1 .0)) in
-    let holds = holds-says tray q (held .0) in
-    let next = next-says (d .head) (numbersOf (trailerIn (sheetAt tray q))) (held .1) in
+    let allowed = take-allows d tray silent in
+    let s = desk-says d (allowed .is-sound) in
+    let holds = holds-says tray q (allowed .holds-good) in
+    let next = allowed .is-next in
     let loop = entries-loop d es (d .kind) (d .day) (fits .kinds) (fits .days) (taken-rise d tray s (holds .sheet-good) (next .cells)) (taken-below d tray s (holds .sheet-good) (next .cells)) in
-    let elsewhere : d .head .own ≡ q → ⊥ = own-is-not q (d .head .own) (silent .1 .1 .0) in
-    let there : received tray q ≡ some (updatesIn es) = rw (held .0) in
+    let elsewhere : d .head .own ≡ q → ⊥ = own-is-not q (d .head .own) (allowed .elsewhere) in
+    let there : received tray q ≡ some (updatesIn es) = rw (allowed .holds-good) in
     let step : StepOf d (processOf d tray) (applies q (updatesIn es) (length es) went) (between d es tray) = apply (processOf d tray) q (updatesIn es) refl elsewhere there loop in
     let left = given-up tray q (holds .room) in
     let count = sym (entries-count (trailerIn (sheetAt tray q) .entries) (sheetAt tray q)) in

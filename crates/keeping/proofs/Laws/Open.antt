@@ -5,21 +5,21 @@ use Prim.Native.Nat.{ℕ, _≤_}
 use mathlib.Core.Path.{_≡_, refl, ap, _∙_}
 use mathlib.Core.Bool.{Bool, true, false, cond}
 use native.Mathlib.Omega.{arith}
-use lib.Dec.{eqb, leb}
+use lib.Dec.{eqb}
 use lib.IntN.{pos}
 use lib.ListN.{replicate, length-replicate}
 use mir.Syntax.{w32}
 use mir.Val.{SFits}
-use borrow.Author.Tests.{leb-true, leb-false, ltb-false, eqb-false, not-false}
+use borrow.Author.Tests.{eqb-false}
 use Rattle.answer.specs.Answer.{answered}
 use Rattle.answer.specs.Promises.{Silent}
 use Rattle.answer.proofs.Laws.{answered-only-if, changed-if}
-use Rattle.sheet.proofs.Laws.Bools.{and-split}
 use Rattle.cells.specs.Cells.{kindAt, dayAt}
 use Rattle.sound.specs.declared.Head.{Head}
 use Rattle.desk.specs.Answers.{opened}
 use Rattle.desk.specs.Calls.{sound, openRules, modeFor, blankDesk, freshHead, openOf}
 use Rattle.desk.specs.Values.{DeskFits}
+use Rattle.desk.proofs.Laws.Allowed.{open-allows}
 use Rattle.keeping.proofs.Laws.Rules.{kept}
 use Rattle.keeping.proofs.Laws.Places.{FairPlace, sound-by-places, blank-place}
 
@@ -57,18 +57,17 @@ unfolding openOf
 open-sound n m own mode e =
     let rules = openRules n m own mode in
     let silent : Silent rules = answered-only-if rules opened opened e .0 in
-    let desks = and-split (leb 1 n) (leb n 16) (not-false _ (silent .0)) in
-    let cells = and-split (leb 1 m) (leb m 64) (not-false _ (silent .1 .0)) in
-    let modes = mode-in-force mode (ltb-false 3 mode (silent .1 .1 .1 .0)) in
+    let allowed = open-allows n m own mode silent in
+    let modes = mode-in-force mode (allowed .mode-most) in
     let h = freshHead n m own (modeFor mode) in
     ap sound (changed-if rules (blankDesk (freshHead 0 0 0 0)) (blankDesk h) silent)
     ∙ sound-by-places h (replicate 64 0) (replicate 64 (pos 0)) (replicate 64 0) (replicate 64 (pos 0))
     (record {
-      desks-least = leb-true 1 n (desks .0);
-      desks-most = leb-true n 16 (desks .1);
-      cells-least = leb-true 1 m (cells .0);
-      cells-most = leb-true m 64 (cells .1);
-      own-below = leb-false n own (silent .1 .1 .0);
+      desks-least = allowed .desks-least;
+      desks-most = allowed .desks-most;
+      cells-least = allowed .cells-least;
+      cells-most = allowed .cells-most;
+      own-below = allowed .own-below;
       mode-least = modes .0;
       mode-most = modes .1;
     })

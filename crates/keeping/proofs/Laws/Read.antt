@@ -7,14 +7,15 @@ use Prim.Native.Nat.{ℕ, _+_, _-_, _<_}
 use mathlib.Core.Path.{_≡_, refl}
 use mathlib.Core.Bool.{Bool, true, false, cond, not}
 use native.Mathlib.Omega.{arith}
-use borrow.Author.Tests.{eqb-true, eqb-false, leb-false, not-true}
+use borrow.Author.Tests.{eqb-true, eqb-false, not-true}
 use Rattle.sheet.proofs.Laws.Bools.{and-split}
 use Rattle.cells.specs.Cells.{blank, filled, some}
 use Rattle.sound.specs.Head.{sequential, ownTurn, turnDesk}
-use Rattle.sound.proofs.Laws.Sound.{Waiting, sound-says}
+use Rattle.sound.proofs.Laws.Sound.{Waiting}
 use Rattle.desk.specs.declared.Desk.{Desk}
 use Rattle.desk.specs.Calls.{sound, readRules, mustWait, waitingDesk, readOf}
 use Rattle.desk.specs.Values.{DeskFits}
+use Rattle.desk.proofs.Laws.Allowed.{desk-says, read-allows}
 use Rattle.keeping.specs.Promises.{KeptSound, KeptFits}
 use Rattle.keeping.proofs.Laws.Rules.{kept}
 use Rattle.keeping.proofs.Laws.Places.{numbers-are, place-is, sound-by-places}
@@ -40,11 +41,11 @@ module _ (d : Desk) (cell : ℕ) where
   unfolding readOf
   read-sound fits e =
       kept (λ (x : Desk). sound x ≡ true) (readRules d cell) d (cond (mustWait d cell) (waitingDesk d cell) d) e
-      (λ silent. by-test (leb-false (d .head .m) cell (silent .1 .0)) (mustWait d cell) refl)
+      (λ silent. by-test (read-allows d cell silent .cell-below) (mustWait d cell) refl)
     where
       by-test : cell < d .head .m → (t : Bool) → mustWait d cell ≡ t → sound (cond t (waitingDesk d cell) d) ≡ true
       by-test low true must =
-          let s = sound-says {h = d .head} {kind = d .kind} {day = d .day} {pkind = d .pkind} {pday = d .pday} e in
+          let s = desk-says d e in
           sound-by-places (waitingDesk d cell .head) (d .kind) (d .day) (d .pkind) (d .pday) (numbers-are s) (place-is s) (λ w. wait-says must low)
       by-test low false must = e
 

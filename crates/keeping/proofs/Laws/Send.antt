@@ -12,18 +12,19 @@ use mathlib.Core.List.{List, _++_}
 use native.Mathlib.Omega.{arith}
 use lib.IntN.{ℤ, pos}
 use lib.ListN.{length, drop, replicate, length-append, length-drop, length-replicate}
-use borrow.Author.Tests.{eqb-true, eqb-false, ltb-false, le-ltb, not-false}
+use borrow.Author.Tests.{eqb-true, eqb-false, le-ltb}
 use Rattle.answer.specs.Answer.{refused}
 use Rattle.answer.proofs.Laws.{refused-only-if}
 use Rattle.cells.specs.Cells.{kindAt, dayAt}
 use Rattle.sound.specs.Head.{ownTurn}
-use Rattle.sound.proofs.Laws.Sound.{Sound, sound-says}
+use Rattle.sound.proofs.Laws.Sound.{Sound}
 use Rattle.pending.specs.Pending.{pendingEntries, sheetOf}
 use Rattle.pending.proofs.Laws.Sending.{sheet-most}
 use Rattle.desk.specs.declared.Desk.{Desk}
 use Rattle.desk.specs.Answers.{sent}
 use Rattle.desk.specs.Calls.{sound, sendRules, sentDesk, sendOf, lastTurn}
 use Rattle.desk.specs.Values.{DeskFits}
+use Rattle.desk.proofs.Laws.Allowed.{desk-says, send-allows}
 use Rattle.keeping.specs.Promises.{KeptSound, KeptFits}
 use Rattle.keeping.proofs.Laws.Rules.{kept, never-given}
 use Rattle.keeping.proofs.Laws.Places.{FairPlace, numbers-are, place-is, sound-by-places, blank-place}
@@ -60,12 +61,12 @@ module _ (d : Desk) where
     pub send-sound : KeptSound d (sendOf d buf)
     unfolding sendOf
     send-sound fits e =
-        let s = sound-says {h = d .head} {kind = d .kind} {day = d .day} {pkind = d .pkind} {pday = d .pday} e in
+        let s = desk-says d e in
         let after = sentDesk d in
         kept (λ (x : Desk). sound x ≡ true) (sendRules d buf) d after e
         (λ silent.
         sound-by-places (after .head) (after .kind) (after .day) (after .pkind) (after .pday) (numbers-are s) (place-after s)
-        (λ w. absurd (none-waits s (not-false _ (silent .1 .0)) w)))
+        (λ w. absurd (none-waits s (send-allows d buf silent .own-turn) w)))
 
     pub send-fits : KeptFits d (sendOf d buf)
     unfolding sendOf
@@ -79,7 +80,7 @@ module _ (d : Desk) where
           pdays = length-replicate 64 (pos 0);
           day = fits .day;
           pday = λ i. rw (blank-place (pos 0) i) (record { sfits = omega arith });
-          turn = omega (arith, fits .turn, eqb-false (d .head .turn) lastTurn (silent .1 .1 .0));
+          turn = omega (arith, fits .turn, eqb-false (d .head .turn) lastTurn (send-allows d buf silent .not-last));
         })
 
     pub never-11 : 396 ≤ length buf → sendOf d buf .answer ≡ refused 11 → ⊥
@@ -96,5 +97,5 @@ module _ (d : Desk) where
         let sheet = sheetOf (d .head) (d .pkind) (d .pday) in
         kept (λ (l : List ℕ). length l ≡ length buf) (sendRules d buf) buf (sheet ++ drop (length sheet) buf) refl
         (λ silent.
-        let room : length sheet ≤ length buf = ltb-false (length buf) (length sheet) (silent .1 .1 .1 .0) in
+        let room : length sheet ≤ length buf = send-allows d buf silent .room in
         length-append sheet (drop (length sheet) buf) ∙ omega (arith, length-drop (length sheet) buf))

@@ -2,7 +2,7 @@
 --   fair-head, fair-places                    the record's numbers and pending places are within limits
 --   sheet-good, sheet-numbers, sheet-entries  the sheet is good, and gives back the desk's numbers and the pending entries
 -- Assumes nothing.
-use Prim.Native.Nat.{ℕ, _<_}
+use Prim.Native.Nat.{ℕ}
 use mathlib.Core.Path.{_≡_, sym, ap, _∙_}
 use mathlib.Core.Bool.{true, false}
 use mathlib.Core.List.{List}

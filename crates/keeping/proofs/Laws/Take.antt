@@ -20,9 +20,9 @@ use lib.ListN.{length, drop}
 use mir.Syntax.{w32}
 use mir.Val.{SFits}
 use mir.Facts.{sfits-toZ}
-use borrow.Author.Tests.{eqb-true, eqb-false, ne-eqb, ltb-true, not-false}
+use borrow.Author.Tests.{eqb-true, eqb-false, ne-eqb, ltb-true}
 use Rattle.layout.specs.declared.Entry.{Entry}
-use Rattle.layout.specs.Layout.{entryOf, entriesOf, trailerIn, numbersOf}
+use Rattle.layout.specs.Layout.{entryOf, entriesOf, trailerIn}
 use Rattle.layout.specs.Values.{AreBytes}
 use Rattle.layout.proofs.Bytes.{front-bytes, back-bytes}
 use Rattle.sheet.specs.Good.{every, rising, below, kindAndDay}
@@ -33,15 +33,15 @@ use Rattle.cells.proofs.Laws.{place-put, place-kept, place-length}
 use Rattle.sound.specs.declared.Head.{Head}
 use Rattle.sound.specs.Head.{causal, turnDesk}
 use Rattle.sound.specs.Sound.{dayFits}
-use Rattle.sound.proofs.Laws.Sound.{Waiting, sound-says}
-use Rattle.tray.specs.Tray.{lengthAt, start, sheetAt, holdsGood, clearedIn}
+use Rattle.sound.proofs.Laws.Sound.{Waiting}
+use Rattle.tray.specs.Tray.{lengthAt, start, sheetAt, clearedIn}
 use Rattle.tray.proofs.Laws.Places.{holds-says, cleared-long}
 use Rattle.applying.specs.Applying.{goes, laid, kindOn, dayOn}
 use Rattle.applying.proofs.Laws.{Every, laid-length, laid-every}
 use Rattle.desk.specs.declared.Desk.{Desk}
-use Rattle.desk.specs.Calls.{sound, lastTurn, nextHead, isNext, takeRules, entriesTaken, readEnds, takenDesk, takeOf}
+use Rattle.desk.specs.Calls.{sound, lastTurn, nextHead, takeRules, entriesTaken, readEnds, takenDesk, takeOf}
 use Rattle.desk.specs.Values.{DeskFits}
-use Rattle.desk.proofs.Laws.Next.{next-says}
+use Rattle.desk.proofs.Laws.Allowed.{desk-says, take-allows}
 use Rattle.keeping.specs.Promises.{KeptSound, KeptFits}
 use Rattle.keeping.proofs.Laws.Rules.{kept}
 use Rattle.keeping.proofs.Laws.Places.{FairPlace, numbers-are, place-is, sound-by-places}
@@ -153,14 +153,13 @@ module _ (d : Desk) (tray : List ℕ) where
       let h = d .head in
       let q = turnDesk h in
       let es = entriesTaken d tray in
-      let s = sound-says {h = h} {kind = d .kind} {day = d .day} {pkind = d .pkind} {pday = d .pday} e in
+      let s = desk-says d e in
       let after = takenDesk d es in
       kept (λ (x : Desk). sound x ≡ true) (takeRules d tray) d after e
       (λ silent.
-      let held = and-split (holdsGood tray q) (isNext h (numbersOf (trailerIn (sheetAt tray q)))) (not-false _ (silent .1 .1 .1 .1 .1 .0)) in
-      let cells = next-says h (numbersOf (trailerIn (sheetAt tray q))) (held .1) .cells in
-      let tests = and-split _ _ (good-entries-are (sheetAt tray q) (holds-says tray q (held .0) .sheet-good)) in
-      let low : every (below (h .m)) es ≡ true = rw cells at (and-split (rising es) _ (tests .0) .1) in
+      let allowed = take-allows d tray silent in
+      let tests = and-split _ _ (good-entries-are (sheetAt tray q) (holds-says tray q (allowed .holds-good) .sheet-good)) in
+      let low : every (below (h .m)) es ≡ true = rw (allowed .is-next .cells) at (and-split (rising es) _ (tests .0) .1) in
       sound-by-places (after .head) (after .kind) (after .day) (after .pkind) (after .pday) (numbers-are s)
       (λ i b.
       laid-place (λ (k : ℕ) (x : ℤ). FairPlace (h .m) (h .mode) i k x (kindAt (d .pkind) i) (dayAt (d .pday) i)) (goes (causal h) (d .pkind)) i b (d .kind) (d .day) es (fits .kinds) (fits .days)
@@ -185,7 +184,7 @@ module _ (d : Desk) (tray : List ℕ) where
         pdays = fits .pdays;
         day = λ i. laid-every (SFits w32) (pos 0) going dayOn i (d .day) es days (fits .day i);
         pday = fits .pday;
-        turn = omega (arith, fits .turn, eqb-false (h .turn) lastTurn (silent .1 .1 .1 .0));
+        turn = omega (arith, fits .turn, eqb-false (h .turn) lastTurn (take-allows d tray silent .not-last));
       })
 
   pub take-long : length (takeOf d tray .lent) ≡ length tray

@@ -12,17 +12,18 @@ use lib.IntN.{ℤ, pos}
 use lib.ListN.{length}
 use mir.Syntax.{w32}
 use mir.Val.{SFits}
-use borrow.Author.Tests.{eqb-true, eqb-false, leb-false, not-false}
+use borrow.Author.Tests.{eqb-true, eqb-false, not-false}
 use Rattle.content.specs.declared.Content.{Content}
 use Rattle.content.specs.declared.Content.the-variants.{Blank, Open, Day}
 use Rattle.content.specs.Content.{kindOf, dayOf}
 use Rattle.cells.specs.Cells.{kindAt, dayAt, putIf}
 use Rattle.cells.proofs.Laws.{place-put, place-kept, place-length}
 use Rattle.sound.specs.Sound.{dayFits}
-use Rattle.sound.proofs.Laws.Sound.{Sound, sound-says}
+use Rattle.sound.proofs.Laws.Sound.{Sound}
 use Rattle.desk.specs.declared.Desk.{Desk}
 use Rattle.desk.specs.Calls.{sound, writeRules, writtenDesk, writeOf}
 use Rattle.desk.specs.Values.{DeskFits}
+use Rattle.desk.proofs.Laws.Allowed.{desk-says, write-allows}
 use Rattle.keeping.specs.Promises.{KeptSound, KeptFits}
 use Rattle.keeping.proofs.Laws.Rules.{kept}
 use Rattle.keeping.proofs.Laws.Places.{FairPlace, numbers-are, place-is, sound-by-places}
@@ -75,13 +76,14 @@ module _ (d : Desk) (cell : ℕ) (c : Content) where
   pub write-sound : KeptSound d (writeOf d cell c)
   unfolding writeOf
   write-sound fits e =
-      let s = sound-says {h = d .head} {kind = d .kind} {day = d .day} {pkind = d .pkind} {pday = d .pday} e in
+      let s = desk-says d e in
       let after = writtenDesk d cell c in
       kept (λ (x : Desk). sound x ≡ true) (writeRules d cell c) d after e
       (λ silent.
+      let allowed = write-allows d cell c silent in
       sound-by-places (d .head) (after .kind) (after .day) (after .pkind) (after .pday) (numbers-are s)
-      (place-after fits s (leb-false (d .head .m) cell (silent .1 .0)) (eqb-false (kindOf c) 0 (silent .1 .1 .0)))
-      (λ w. absurd (w (eqb-true (d .head .wait) 0 (not-false _ (silent .1 .1 .1 .0))))))
+      (place-after fits s (allowed .cell-below) (allowed .not-blank))
+      (λ w. absurd (w (eqb-true (d .head .wait) 0 (not-false _ (allowed .none-waits))))))
 
   -- ---- days of 32 bits
 
@@ -98,8 +100,8 @@ module _ (d : Desk) (cell : ℕ) (c : Content) where
   write-fits signed fits =
       kept DeskFits (writeRules d cell c) d (writtenDesk d cell c) fits
       (λ silent.
-      let s = sound-says {h = d .head} {kind = d .kind} {day = d .day} {pkind = d .pkind} {pday = d .pday} (not-false _ (silent .0)) in
-      let room : cell < 64 = omega (arith, leb-false (d .head .m) cell (silent .1 .0), s .cells-most) in
+      let allowed = write-allows d cell c silent in
+      let room : cell < 64 = omega (arith, allowed .cell-below, desk-says d (allowed .is-sound) .cells-most) in
       record {
         kinds = place-length true (d .kind) cell (kindOf c) ∙ fits .kinds;
         days = place-length true (d .day) cell (dayOf c) ∙ fits .days;

@@ -6,7 +6,7 @@
 use Prim.Native.Nat.{ℕ, _*_, _%_, _≤_, _<_}
 use mathlib.Core.Path.{_≡_, refl, sym, ap, _∙_}
 use mathlib.Core.Logic.{_≢_, _⊎_, inl, inr}
-use mathlib.Core.Bool.{true, false, not, false≢true}
+use mathlib.Core.Bool.{false, not, false≢true}
 use mathlib.Core.List.{List, [], _∷_}
 use mathlib.Core.Option.{Option}
 use native.Mathlib.Omega.{arith}

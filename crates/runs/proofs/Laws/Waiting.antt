@@ -1,7 +1,7 @@
 -- A read that waits: nothing but an accepted take of its desk moves the desk's turn number, and the take that brings the desk's own turn answers it.
 --   wait-ended            once the desk has had as many accepted takes as there are numbers before its next own one, one of them answers
 -- Assumes nothing.
-use Prim.Native.Nat.{ℕ, _+_, _-_, _%_, _≤_, _<_}
+use Prim.Native.Nat.{ℕ, _+_, _%_, _≤_, _<_}
 use mathlib.Core.Path.{_≡_, refl, sym, ap, _∙_}
 use mathlib.Core.Logic.{_≢_}
 use mathlib.Core.Bool.{Bool, true, false, cond, _&&_, and-false, false≢true}
@@ -19,7 +19,7 @@ use Rattle.sound.specs.Head.{causal, turnDesk, readWaits, waitCell}
 use Rattle.tray.specs.Tray.{clearedIn}
 use Rattle.applying.specs.Applying.{goes, wentOf}
 use Rattle.desk.specs.declared.Desk.{Desk}
-use Rattle.desk.specs.Answers.{Value, waits, taken}
+use Rattle.desk.specs.Answers.{Value, taken}
 use Rattle.desk.specs.Calls.{readEnds, writtenDesk, waitingDesk, sentDesk, entriesTaken, takenDesk, waitedFor}
 use Rattle.desk.proofs.Laws.Allowed.{write-allows, read-allows, send-allows}
 use Rattle.runs.specs.Calls.{Call, document01, takes}
