@@ -23,7 +23,7 @@ use Rattle.desk.specs.Answers.{sent, held}
 use Rattle.desk.specs.Calls.{sound, lastTurn, trayFits, openOf, sendRules, sendOf, deliverRules, deliverOf, takeRules, takeOf}
 use Rattle.keeping.proofs.Keeping.{numbers-stay}
 use Rattle.runs.specs.Calls.{Call, document01, sends, delivers}
-use Rattle.runs.specs.Run.{Shelf, Within, State, sheetNo, start, made, after, Run}
+use Rattle.runs.specs.Run.{Shelf, State, sheetNo, start, made, after, Run}
 use Rattle.runs.specs.Run as runs
 use Rattle.runs.specs.TurnRules.{now, turnOf}
 use Rattle.runs.specs.InOrder.{SheetInOrder, DeskInOrder, InOrder}
@@ -32,6 +32,7 @@ use Rattle.runs.proofs.InOrder.{stays-in-order}
 use Rattle.runs.proofs.Laws.Lists.{later-append, run-append}
 use Rattle.runs.proofs.Laws.Steps.{put-same}
 use Rattle.runs.proofs.Laws.Order.{own-last}
+use Rattle.runs.proofs.Laws.Tested.{sized}
 use Rattle.runs.proofs.Laws.Never.{tray-fits, same-shelf}
 use Rattle.runs.proofs.Laws.Taken.{never-back}
 use Rattle.runs.proofs.Laws.Going.{can-send}
@@ -92,16 +93,6 @@ record Brings (turn : ℕ) : Type 0 where
   run : Run document01 1 (start oneDesk) calls
   is : turnOf (now document01 oneDesk calls) 0 ≡ turn
 
-one-within : Within oneDesk
-one-within =
-    record {
-      desks-least = omega arith;
-      desks-most = omega arith;
-      cells-least = omega arith;
-      cells-most = omega arith;
-      modes-most = λ p h. omega arith;
-    }
-
 one-more : (turn : ℕ) → turn < lastTurn → Brings turn → Brings (turn + 1)
 unfolding after Run runs.later
 one-more turn low b =
@@ -122,7 +113,7 @@ one-more turn low b =
     s = now document01 oneDesk (b .calls)
 
     o : InOrder oneDesk s
-    o = stays-in-order .run oneDesk (start oneDesk) (b .calls) (stays-in-order .fresh oneDesk one-within) (b .run)
+    o = stays-in-order .run oneDesk (start oneDesk) (b .calls) (stays-in-order .fresh oneDesk (sized 1 1 2 refl)) (b .run)
 
     alone : (k : ℕ) → k % 1 ≡ 0
     alone k = let h : k % 1 < 1 = mod-lt k (omega arith) in omega arith

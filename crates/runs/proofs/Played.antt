@@ -5,7 +5,6 @@ use mathlib.Core.Bool.{true, false, false≢true}
 use mathlib.Core.List.{List, [], _∷_, _++_}
 use mathlib.Core.Option.{none}
 use Prim.Native.Nat.{ℕ, _<_}
-use native.Mathlib.Omega.{arith}
 use lib.Dec.{ltb}
 use lib.IntN.{pos}
 use lib.ListN.{length}
@@ -18,27 +17,13 @@ use Rattle.runs.specs.Calls.{Call, document01, reads, delivers, takes}
 use Rattle.runs.specs.Run.{Within, State, sheetNo, start}
 use Rattle.runs.specs.TurnRules.{now, turnOf, HasTurn, CanSend, is-held, answers-it}
 use Rattle.runs.specs.Played.{twoDesks, threeDesks, lent, listingCalls, listingAnswers, ListingIsARun, HoldsUntaken, oneSheet, twoSheets, TwoHold, beforeTheRead, whileItWaits, untilAnswered, waitAnswers, sinceTheRead, LongestWait, sheetOnTheLine, NobodySends, threeSheets, threeSheetsAnswers, Furthest, RunsPlayed}
-use Rattle.runs.proofs.Laws.Tested.{computing, below-two, is-possible, is-run, answered-last, someSeen, seesTake, no-take, no-answer}
+use Rattle.runs.proofs.Laws.Tested.{computing, below-two, sized, is-possible, is-run, answered-last, someSeen, seesTake, no-take, no-answer}
 
 pub two-within : Within twoDesks
-two-within =
-    record {
-      desks-least = omega arith;
-      desks-most = omega arith;
-      cells-least = omega arith;
-      cells-most = omega arith;
-      modes-most = λ p h. omega arith;
-    }
+two-within = sized 2 2 1 refl
 
 pub three-within : Within threeDesks
-three-within =
-    record {
-      desks-least = omega arith;
-      desks-most = omega arith;
-      cells-least = omega arith;
-      cells-most = omega arith;
-      modes-most = λ p h. omega arith;
-    }
+three-within = sized 3 2 1 refl
 
 listing : ListingIsARun
 unfolding computing lent listingCalls listingAnswers

@@ -1,6 +1,7 @@
 -- That given calls are a run, and that none of them is such a call, where a test that computes says so.
 --   computing                  a proof with this on its `unfolding` line computes what calls answer and leave
 --   below-two, below-three     what is so of each of the least two or three numbers
+--   sized                      a shelf within limits
 --   is-possible, is-run        a call is one that a run may have next; so is every one of these calls
 --   answered-last              the last of these calls answers a read, and all others let it wait
 --   no-take, no-answer         none of these calls takes a sheet at desk p; none answers a read of desk p
@@ -11,14 +12,16 @@ use mathlib.Core.List.{List, [], _∷_, _++_}
 use mathlib.Core.Option.{none, some}
 use Prim.Native.Nat.{ℕ, zero, suc, _<_, _^_}
 use native.Mathlib.Omega.{arith}
-use lib.Dec.{eqb, ltb}
+use lib.Dec.{eqb, leb, ltb}
 use lib.Signed.{mag}
 use lib.ListN.{length}
-use borrow.Author.Tests.{ltb-true, eqb-true, eq-eqb}
+use borrow.Author.Tests.{ltb-true, leb-true, eqb-true, eq-eqb}
 use Rattle.answer.specs.Answer.{Answer, refused, answered}
 use Rattle.content.specs.Content.{dayOf}
 use Rattle.laying.specs.Laying.{laidOver}
+use Rattle.numbers.specs.Limits.{within}
 use Rattle.sheet.specs.Good.{good}
+use Rattle.sheet.proofs.Laws.Bools.{and-split}
 use Rattle.cells.specs.Cells.{placeAt, each, putIf}
 use Rattle.cells.specs.Cells as cells
 use Rattle.sound.specs.Head.{readWaits, waitCell}
@@ -29,7 +32,7 @@ use Rattle.applying.specs.Applying.{laid, wentOf}
 use Rattle.desk.specs.Answers.{Value, opened, stored, holds, waits, sent, held, taken}
 use Rattle.desk.specs.Calls.{openOf, writeOf, mustWait, readOf, sendOf, deliverOf, takeOf}
 use Rattle.runs.specs.Calls.{Calls, Call, writes, reads, sends, delivers, takes}
-use Rattle.runs.specs.Run.{State, start, made, put, after, Possible, Run, later, answers}
+use Rattle.runs.specs.Run.{Within, State, start, made, put, after, Possible, Run, later, answers}
 use Rattle.runs.specs.TurnRules.{OneOf, first, further, TakesSheet, takes-it, AnswersRead, answers-it, ReadAnswered, at-this, waits-on, takeOfDesk, takesBy}
 
 -- the definitions of the calls and of a run, and those that they rest on: to unfold this is to unfold all of them
@@ -50,11 +53,23 @@ pub below-three : (P : ℕ → Type 0) → P 0 → P 1 → P 2 → (p : ℕ) →
 below-three P a b c zero h = a
 below-three P a b c (suc p) h = below-two (λ q. P (suc q)) b c p (omega arith)
 
--- ---- a run
+-- ---- a shelf whose desks are all opened in one mode
 
-both : (a b : Bool) → a && b ≡ true → (a ≡ true) × (b ≡ true)
-both true b e = (refl, e)
-both false b e = absurd (false≢true e)
+pub sized : (n m mode : ℕ) → within 1 16 n && within 1 64 m && leb mode 3 ≡ true → Within (record { n = n; m = m; mode = λ p. mode })
+sized n m mode e =
+    let modes = and-split (within 1 16 n && within 1 64 m) (leb mode 3) e in
+    let numbers = and-split (within 1 16 n) (within 1 64 m) (modes .0) in
+    let desks = and-split (leb 1 n) (leb n 16) (numbers .0) in
+    let cells = and-split (leb 1 m) (leb m 64) (numbers .1) in
+    record {
+      desks-least = leb-true 1 n (desks .0);
+      desks-most = leb-true n 16 (desks .1);
+      cells-least = leb-true 1 m (cells .0);
+      cells-most = leb-true m 64 (cells .1);
+      modes-most = λ p h. leb-true mode 3 (modes .1);
+    }
+
+-- ---- a run
 
 abbrev pub possible : ℕ → State → Call → Bool
 possible n s (writes p cell c) = ltb p n && ltb (mag (dayOf c)) (2 ^ 31)
@@ -65,12 +80,12 @@ possible n s (takes p) = ltb p n
 
 pub is-possible : (n : ℕ) (s : State) (c : Call) → possible n s c ≡ true → Possible n s c
 is-possible n s (writes p cell c) e =
-    let t = both (ltb p n) _ e in
+    let t = and-split (ltb p n) _ e in
     (ltb-true p n (t .0), record { sfits = ltb-true (mag (dayOf c)) (2 ^ 31) (t .1) })
 is-possible n s (reads p cell) e = ltb-true p n e
 is-possible n s (sends p buffer) e = ltb-true p n e
 is-possible n s (delivers p k) e =
-    let t = both (ltb p n) _ e in
+    let t = and-split (ltb p n) _ e in
     (ltb-true p n (t .0), ltb-true k (length (s .line)) (t .1))
 is-possible n s (takes p) e = ltb-true p n e
 
@@ -82,7 +97,7 @@ pub is-run : (calls : Calls) (n : ℕ) (s : State) (cs : List Call) → allPossi
 unfolding Run
 is-run calls n s [] e = tt
 is-run calls n s (c ∷ cs) e =
-    let t = both (possible n s c) _ e in
+    let t = and-split (possible n s c) _ e in
     (is-possible n s c (t .0), is-run calls n (after calls s c) cs (t .1))
 
 -- ---- a read that waits
@@ -101,8 +116,8 @@ unfolding later
 answered-last calls p cell s [] c e h = at-this h
 answered-last calls p cell s (d ∷ cs) c e h =
     let at = after calls s d .desk p .head in
-    let t = both (readWaits at && eqb (waitCell at) cell) _ e in
-    let w = both (readWaits at) _ (t .0) in
+    let t = and-split (readWaits at && eqb (waitCell at) cell) _ e in
+    let w = and-split (readWaits at) _ (t .0) in
     waits-on (w .0, eqb-true (waitCell at) cell (w .1)) (answered-last calls p cell (after calls s d) cs c (t .1) h)
 
 -- ---- none of these calls
