@@ -1,5 +1,6 @@
 -- What specs/AtTheEnd.antt states: the rules before 10 are off, and a desk alone gets there.
 --   nothing-breaks : NothingBreaks
+--   others-go-on : OthersGoOn
 --   the-end-comes : TheEndComes
 -- Assumes nothing.
 use Prim.Native.Nat.{ℕ, zero, suc, _+_, _%_, _≤_, _<_}
@@ -27,7 +28,7 @@ use Rattle.runs.specs.Run.{Shelf, State, sheetNo, start, made, after, Ru
 use Rattle.runs.specs.Run as runs
 use Rattle.runs.specs.TurnRules.{now, turnOf}
 use Rattle.runs.specs.InOrder.{SheetInOrder, DeskInOrder, InOrder}
-use Rattle.runs.specs.AtTheEnd.{AtItsEnd, NothingBreaks, oneDesk, TheEndComes}
+use Rattle.runs.specs.AtTheEnd.{AtItsEnd, NothingBreaks, OthersGoOn, oneDesk, TheEndComes}
 use Rattle.runs.proofs.InOrder.{stays-in-order}
 use Rattle.runs.proofs.Laws.Lists.{later-append, run-append}
 use Rattle.runs.proofs.Laws.Steps.{put-same}
@@ -35,7 +36,7 @@ use Rattle.runs.proofs.Laws.Order.{own-last}
 use Rattle.runs.proofs.Laws.Tested.{sized}
 use Rattle.runs.proofs.Laws.Never.{tray-fits, same-shelf}
 use Rattle.runs.proofs.Laws.Taken.{never-back}
-use Rattle.runs.proofs.Laws.Going.{can-send}
+use Rattle.runs.proofs.Laws.Going.{can-send, going}
 
 -- ---- what is answered there
 
@@ -84,6 +85,9 @@ module _ {shelf : Shelf} {s : State} (o : InOrder shelf s) (p : ℕ) (here : p <
 
 pub nothing-breaks : NothingBreaks
 nothing-breaks shelf s o p here end = at-its-end o p here end
+
+pub others-go-on : OthersGoOn
+others-go-on = going
 
 -- ---- one desk alone gets there
 

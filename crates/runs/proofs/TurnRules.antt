@@ -104,6 +104,6 @@ turn-rules shelf w cs r =
       one-turn = one-turn shelf w cs r;
       one-sheet = one-sheet shelf w cs r;
       no-17 = λ c here. never-comes .never-17 shelf (now document01 shelf cs) c (o shelf w cs r) here;
-      goes-on = going shelf (now document01 shelf cs) (w .desks-least) (o shelf w cs r);
+      goes-on = λ before. going shelf (now document01 shelf cs) (o shelf w cs r) 0 (w .desks-least) (before 0 (w .desks-least));
       wait-ends = wait-ends shelf w cs r;
     }

@@ -1,7 +1,7 @@
 -- The end of the turn numbers. 00, demand 3: "While no desk's turn number has reached its end". 01's table has 4,294,967,295 as the greatest, and
--- 10 is "turn number is 4,294,967,295". A desk whose turn number is that sends and takes no more, and nothing else changes: its record stays
--- sound, it writes and reads, the others go on as far as they can, and the turn rules hold, but for the fourth, which is about going on.
--- proofs/AtTheEnd.antt proves it.
+-- 10 is "turn number is 4,294,967,295". A desk whose turn number is that sends and takes no more, and nothing breaks: `InOrder`, sound records
+-- among it, is kept by every call, four of the turn rules hold as before, and of the fifth, that some desk can go on, what is left holds: until
+-- all desks are at their end. proofs/AtTheEnd.antt proves it.
 -- Assumes nothing.
 use mathlib.Core.Path.{_≡_}
 use mathlib.Core.Logic.{_⊎_}
@@ -14,7 +14,7 @@ use Rattle.sound.specs.Head.{ownTurn}
 use Rattle.desk.specs.Calls.{lastTurn}
 use Rattle.runs.specs.Calls.{Call, document01, sends, delivers, takes}
 use Rattle.runs.specs.Run.{Shelf, State, start, made, after, Possible, Run}
-use Rattle.runs.specs.TurnRules.{now, turnOf}
+use Rattle.runs.specs.TurnRules.{now, turnOf, CanSend, CanTake}
 use Rattle.runs.specs.InOrder.{InOrder}
 
 -- what desk p answers there
@@ -31,6 +31,12 @@ pub record AtItsEnd (n : ℕ) (s : State) (p : ℕ) : Type 0 where
 
 abbrev pub NothingBreaks : Type 0
 NothingBreaks = (shelf : Shelf) (s : State) → InOrder shelf s → (p : ℕ) → p < shelf .n → turnOf s p ≡ lastTurn → AtItsEnd (shelf .n) s p
+
+-- as long as one desk is not at its end, some desk can send or take
+abbrev pub OthersGoOn : Type 0
+OthersGoOn =
+    (shelf : Shelf) (s : State) → InOrder shelf s → (q : ℕ) → q < shelf .n → turnOf s q < lastTurn
+    → (p : ℕ) × (p < shelf .n) × (CanSend document01 s p ⊎ CanTake document01 s p)
 
 -- the end comes: one desk alone that sends again and again gets there
 abbrev pub oneDesk : Shelf

@@ -1,9 +1,10 @@
--- Where all is in order and before the end, some desk can send or take: look at the desk whose turn the next sheet is, number (sheets sent) mod n.
+-- Where all is in order, some desk can send or take until all are at their end: look at the desk whose turn the next sheet is, number (sheets
+-- sent) mod n.
 --   can-send              it has taken every sheet sent: it can send into 396 bytes
 --   can-take              or else its next sheet is sent, and once delivered it takes it
 --   going                 so one of the two
 -- Assumes nothing.
-use Prim.Native.Nat.{ℕ, _*_, _%_, _≤_, _<_}
+use Prim.Native.Nat.{ℕ, _*_, _%_, _<_}
 use mathlib.Core.Path.{_≡_, refl, sym, ap, _∙_}
 use mathlib.Core.Logic.{_≢_, _⊎_, inl, inr}
 use mathlib.Core.Bool.{false, not, false≢true}
@@ -11,7 +12,7 @@ use mathlib.Core.List.{List, [], _∷_}
 use mathlib.Core.Option.{Option}
 use native.Mathlib.Omega.{arith}
 use native.Mathlib.Nat.{mod-lt}
-use native.Mathlib.Decide.{ℕ-discrete}
+use native.Mathlib.Decide.{ℕ-discrete, decLt}
 use lib.Dec.{eqb}
 use lib.ListN.{length}
 use borrow.Author.Tests.{eq-eqb, ne-eqb, le-ltb, not-true}
@@ -33,7 +34,7 @@ use Rattle.desk.proofs.Laws.Allowed.{SendAllowed, send-if, TakeAllowed, take-if
 use Rattle.runs.specs.Calls.{document01, delivers, takes}
 use Rattle.runs.specs.Run.{Shelf, Sheet, sheetOn, State, sheetNo, made, put, after}
 use Rattle.runs.specs.InOrder.{SheetInOrder, DeskInOrder, InOrder}
-use Rattle.runs.specs.TurnRules.{turnOf, BeforeTheEnd, CanSend, Arrives, is-held, is-there, CanTake}
+use Rattle.runs.specs.TurnRules.{turnOf, CanSend, Arrives, is-held, is-there, CanTake}
 use Rattle.runs.proofs.Laws.Steps.{put-same, takenBy, Step, step}
 use Rattle.runs.proofs.Laws.Steps as steps
 use Rattle.runs.proofs.Laws.Order.{own-last, turn-desk, held-there, next-held, step-in-order}
@@ -178,8 +179,16 @@ module _ {shelf : Shelf} {s : State} (o : InOrder shelf s) (p : ℕ) (here : p <
       by-turn (yes e) = inl (can-send e)
       by-turn (no e) = inr (can-take o p here (omega (arith, o .desks p here .no-further)) (λ own. e (own-last (o .desks p here) own)) low)
 
-pub going : (shelf : Shelf) (s : State) → 1 ≤ shelf .n → InOrder shelf s → BeforeTheEnd (shelf .n) s
+-- as long as one desk, q, is not at its end: where the line has not come to the last number, the desk whose turn the next sheet is can go on; where it has,
+-- q is behind it
+pub going : (shelf : Shelf) (s : State) → InOrder shelf s → (q : ℕ) → q < shelf .n → turnOf s q < lastTurn
     → (p : ℕ) × (p < shelf .n) × (CanSend document01 s p ⊎ CanTake document01 s p)
-going shelf s some o before =
-    let here = mod-lt (length (s .line)) some in
-    (length (s .line) % shelf .n, here, one-can o _ here refl (before _ here))
+going shelf s o q there low = by-line (decLt (length (s .line)) lastTurn)
+  where
+    by-line : Dec (length (s .line) < lastTurn) → (p : ℕ) × (p < shelf .n) × (CanSend document01 s p ⊎ CanTake document01 s p)
+    by-line (yes l) =
+        let here : length (s .line) % shelf .n < shelf .n = mod-lt (length (s .line)) (omega arith) in
+        (length (s .line) % shelf .n, here, one-can o _ here refl (omega (arith, o .desks _ here .no-further)))
+    by-line (no l) =
+        let behind : turnOf s q < length (s .line) = omega arith in
+        (q, there, inr (can-take o q there behind (λ own. omega (arith, own-last (o .desks q there) own, behind)) low))
