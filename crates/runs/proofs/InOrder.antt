@@ -23,7 +23,7 @@ use Rattle.runs.specs.Run.{Shelf, Within, State, after, Possible, Run, l
 use Rattle.runs.specs.Run as run
 use Rattle.runs.specs.InOrder.{is-free, DeskInOrder, InOrder, RunsStayInOrder}
 use Rattle.runs.proofs.Laws.Steps.{step}
-use Rattle.runs.proofs.Laws.Order.{step-in-order}
+use Rattle.runs.proofs.Laws.Keeps.{step-in-order}
 
 -- ---- a clear tray
 

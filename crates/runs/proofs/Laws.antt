@@ -1,7 +1,9 @@
 pub mod Cyclic
 pub mod Lists
 pub mod Steps
+pub mod Line
 pub mod Order
+pub mod Keeps
 pub mod Never
 pub mod Taken
 pub mod Going

@@ -21,7 +21,8 @@ use Rattle.runs.specs.TurnRules.{now, turnOf, HasTurn, Untaken, OneTurn,
 use Rattle.runs.proofs.InOrder.{stays-in-order}
 use Rattle.runs.proofs.Laws.Cyclic.{window, Next, next}
 use Rattle.runs.proofs.Laws.Steps.{put-same, Step, is-refused, is-read, is-waiting, step}
-use Rattle.runs.proofs.Laws.Order.{desk-sound, own-last, near, turn-desk, step-in-order}
+use Rattle.runs.proofs.Laws.Order.{desk-sound, own-last, near, turn-desk}
+use Rattle.runs.proofs.Laws.Keeps.{step-in-order}
 use Rattle.runs.proofs.Laws.Never.{never-comes}
 use Rattle.runs.proofs.Laws.Taken.{gone-past}
 use Rattle.runs.proofs.Laws.Going.{going}

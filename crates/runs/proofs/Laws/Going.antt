@@ -37,7 +37,8 @@ use Rattle.runs.specs.InOrder.{SheetInOrder, DeskInOrder, InOrder}
 use Rattle.runs.specs.TurnRules.{turnOf, CanSend, Arrives, is-held, is-there, CanTake}
 use Rattle.runs.proofs.Laws.Steps.{put-same, takenBy, Step, step}
 use Rattle.runs.proofs.Laws.Steps as steps
-use Rattle.runs.proofs.Laws.Order.{own-last, turn-desk, held-there, next-held, step-in-order}
+use Rattle.runs.proofs.Laws.Order.{own-last, turn-desk, next-held}
+use Rattle.runs.proofs.Laws.Keeps.{held-there, step-in-order}
 use Rattle.runs.proofs.Laws.Never.{tray-fits, same-shelf, in-reach, next-is-next}
 
 -- ---- send

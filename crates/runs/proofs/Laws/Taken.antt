@@ -23,7 +23,9 @@ use Rattle.runs.specs.Run.{Shelf, Sheet, sheetOn, State, sheetNo, made, 
 use Rattle.runs.specs.InOrder.{InOrder}
 use Rattle.runs.specs.TurnRules.{turnOf, OneOf, first, further, TakesSheet, takes-it}
 use Rattle.runs.proofs.Laws.Steps.{put-same, put-other, sheetBy, Step, is-refused, is-stored, is-read, is-waiting, is-sent, is-held, is-taken, step}
-use Rattle.runs.proofs.Laws.Order.{sender-is, more-long, more-same, next-held, step-in-order}
+use Rattle.runs.proofs.Laws.Line.{more-long, more-same}
+use Rattle.runs.proofs.Laws.Order.{next-held}
+use Rattle.runs.proofs.Laws.Keeps.{sender-is, step-in-order}
 
 -- ---- the line
 

@@ -27,7 +27,8 @@ use Rattle.runs.specs.Run.{Shelf, State, made, put, after, Run}
 use Rattle.runs.specs.InOrder.{InOrder}
 use Rattle.runs.specs.TurnRules.{turnOf, takeOfDesk, accepted, takesBy, ReadWaits, AnswersRead, answers-it, ReadAnswered, at-this, waits-on}
 use Rattle.runs.proofs.Laws.Steps.{put-same, put-other, takenBy, Step, is-refused, is-stored, is-read, is-waiting, is-sent, is-held, is-taken, step}
-use Rattle.runs.proofs.Laws.Order.{desk-sound, step-in-order}
+use Rattle.runs.proofs.Laws.Order.{desk-sound}
+use Rattle.runs.proofs.Laws.Keeps.{step-in-order}
 
 -- what a call does to a desk at which a read waits: nothing, or it is an accepted take of that desk
 data Passes (s : State) (p : ℕ) : Call → Answer Value → State → Type 0 where
