@@ -49,7 +49,7 @@ module _ (cs : List Call) (p k : ℕ) where
         untaken =
             record {
               sent = ltb-true k (length (s .line)) is-sent;
-              untaken = no-take document01 p (sheetNo s k .bytes) (start threeDesks) cs no-takes;
+              untaken = no-take document01 p k (start threeDesks) cs no-takes;
             };
       }
 

@@ -44,16 +44,17 @@ pub data OneOf (calls : Calls) (such : State → Call → Type 0) : State → Li
   further : {s : State} {c : Call} {cs : List Call} → OneOf calls such (after calls s c) cs → OneOf calls such s (c ∷ cs)
 
 -- an accepted take of desk p that takes this sheet: those bytes are in the place of the desk whose turn it is
-pub data TakesSheet (calls : Calls) (p : ℕ) (sheet : List ℕ) (s : State) : Call → Type 0 where
+pub data TakesSheet (calls : Calls) (p k : ℕ) (s : State) : Call → Type 0 where
   takes-it : (v : Value)
       → made calls s (takes p) .answer ≡ answered v
-      → sheetAt (s .tray p) (turnDesk (s .desk p .head)) ≡ sheet
-      → TakesSheet calls p sheet s (takes p)
+      → k < length (s .line)
+      → sheetAt (s .tray p) (turnDesk (s .desk p .head)) ≡ sheetNo s k .bytes
+      → TakesSheet calls p k s (takes p)
 
 -- sheet k is "sent" when these calls have been made on a fresh shelf, and "untaken" by desk p: none of them took it there
 pub record Untaken (calls : Calls) (shelf : Shelf) (cs : List Call) (p k : ℕ) : Type 0 where
   pub sent : k < length (now calls shelf cs .line)
-  pub untaken : OneOf calls (TakesSheet calls p (sheetNo (now calls shelf cs) k .bytes)) (start shelf) cs → ⊥
+  pub untaken : OneOf calls (TakesSheet calls p k) (start shelf) cs → ⊥
 
 -- desk p "can send into 396 bytes": whatever they are, the send is carried out with the desk's turn number
 abbrev pub CanSend : Calls → State → ℕ → Type 0

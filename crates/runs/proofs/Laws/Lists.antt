@@ -2,11 +2,15 @@
 --   later-append          calls after calls: what there is after both
 --   run-append            and they are a run where the first are one, and the others from there on
 -- Assumes nothing.
-use mathlib.Core.Path.{_≡_, refl}
+use mathlib.Core.Path.{_≡_, refl, ap}
 use mathlib.Core.List.{List, [], _∷_, _++_}
-use Prim.Native.Nat.{ℕ}
+use Prim.Native.Nat.{ℕ, _+_}
+use native.Mathlib.Omega.{arith}
+use Rattle.answer.specs.Answer.{Answer}
+use Rattle.desk.specs.Answers.{Value}
+use Rattle.runs.specs.TurnRules.{takesBy}
 use Rattle.runs.specs.Calls.{Calls, Call}
-use Rattle.runs.specs.Run.{State, after, Run, later}
+use Rattle.runs.specs.Run.{State, made, after, Possible, Run, later, answers}
 
 pub later-append : (calls : Calls) (s : State) (cs ds : List Call) → later calls s (cs ++ ds) ≡ later calls (later calls s cs) ds
 unfolding later
@@ -17,3 +21,28 @@ pub run-append : (calls : Calls) (n : ℕ) (s : State) (cs ds : List Call) → R
 unfolding Run later
 run-append calls n s [] ds r q = q
 run-append calls n s (c ∷ cs) ds r q = (r .0, run-append calls n (after calls s c) cs ds (r .1) q)
+
+pub run-split : (calls : Calls) (n : ℕ) (s : State) (cs ds : List Call) → Run calls n s (cs ++ ds) → Run calls n s cs × Run calls n (later calls s cs) ds
+unfolding Run later
+run-split calls n s [] ds r = (tt, r)
+run-split calls n s (c ∷ cs) ds r = let rest = run-split calls n (after calls s c) cs ds (r .1) in ((r .0, rest .0), rest .1)
+
+pub answers-append : (calls : Calls) (s : State) (cs ds : List Call) → answers calls s (cs ++ ds) ≡ answers calls s cs ++ answers calls (later calls s cs) ds
+unfolding answers later
+answers-append calls s [] ds = refl
+answers-append calls s (c ∷ cs) ds = ap (λ (l : List (Answer Value)). made calls s c .answer ∷ l) (answers-append calls (after calls s c) cs ds)
+
+pub takesBy-append : (calls : Calls) (p : ℕ) (s : State) (cs ds : List Call) → takesBy calls p s (cs ++ ds) ≡ takesBy calls p s cs + takesBy calls p (later calls s cs) ds
+unfolding takesBy later
+takesBy-append calls p s [] ds = omega arith
+takesBy-append calls p s (c ∷ cs) ds = omega (arith, takesBy-append calls p (after calls s c) cs ds)
+
+-- what is so of no calls, and of one call more whenever it is so before it, is so of every run
+pub along : (calls : Calls) (n : ℕ) (s : State) (P : List Call → State → Type 0)
+    → P [] s
+    → ((cs : List Call) (c : Call) → Run calls n s cs → P cs (later calls s cs) → Possible n (later calls s cs) c → P (cs ++ c ∷ []) (after calls (later calls s cs) c))
+    → (cs : List Call) → Run calls n s cs → P cs (later calls s cs)
+unfolding Run later
+along calls n s P none one [] r = none
+along calls n s P none one (c ∷ cs) r =
+    along calls n (after calls s c) (λ ds t. P (c ∷ ds) t) (one [] c tt none (r .0)) (λ ds d q h possible. one (c ∷ ds) d (r .0, q) h possible) cs (r .1)

@@ -61,7 +61,7 @@ line-kept s (c ∷ cs) =
 data Moves (n : ℕ) (s : State) (p : ℕ) : Call → State → Type 0 where
   stays : {c : Call} {t : State} → turnOf t p ≡ turnOf s p → Moves n s p c t
   by-send : {c : Call} {t : State} → turnOf s p % n ≡ p → turnOf t p ≡ turnOf s p + 1 → Moves n s p c t
-  by-take : {t : State} → TakesSheet document01 p (sheetNo s (turnOf s p) .bytes) s (takes p) → turnOf s p < length (s .line)
+  by-take : {t : State} → TakesSheet document01 p (turnOf s p) s (takes p)
       → turnOf t p ≡ turnOf s p + 1 → Moves n s p (takes p) t
 
 module _ {shelf : Shelf} {s : State} (o : InOrder shelf s) (p : ℕ) (here : p < shelf .n) where
@@ -96,7 +96,7 @@ module _ {shelf : Shelf} {s : State} (o : InOrder shelf s) (p : ℕ) (here : p <
       by-desk (yes z) =
           let silent′ : Silent (takeRules (s .desk p) (s .tray p)) = rw (← z) at silent in
           let held = next-held (o .desks p here) (take-allows (s .desk p) (s .tray p) silent′ .not-free) in
-          rw (← z) (by-take (takes-it _ (rw (← z) at e) (held .is)) (held .sent) (ap turn-in (put-same (s .desk) p (takenDesk (s .desk p) (entriesTaken (s .desk p) (s .tray p))))))
+          rw (← z) (by-take (takes-it _ (rw (← z) at e) (held .sent) (held .is)) (ap turn-in (put-same (s .desk) p (takenDesk (s .desk p) (entriesTaken (s .desk p) (s .tray p))))))
       by-desk (no z) = stays (other-turn q (takenDesk (s .desk q) (entriesTaken (s .desk q) (s .tray q))) z)
 
   pub never-back : (c : Call) → turnOf s p ≤ turnOf (after document01 s c) p
@@ -105,29 +105,27 @@ module _ {shelf : Shelf} {s : State} (o : InOrder shelf s) (p : ℕ) (here : p <
       by-move : {c : Call} {t : State} → Moves (shelf .n) s p c t → turnOf s p ≤ turnOf t p
       by-move (stays e) = omega (arith, e)
       by-move (by-send own e) = omega (arith, e)
-      by-move (by-take it sent e) = omega (arith, e)
+      by-move (by-take it e) = omega (arith, e)
 
 -- ---- a list of calls
 
 pub gone-past : (shelf : Shelf) (p : ℕ) → p < shelf .n → (s : State) (cs : List Call) → InOrder shelf s → Run document01 (shelf .n) s cs
     → (k : ℕ) → turnOf s p ≤ k → k < turnOf (later document01 s cs) p → k % shelf .n ≢ p
-    → OneOf document01 (TakesSheet document01 p (sheetNo (later document01 s cs) k .bytes)) s cs
+    → OneOf document01 (TakesSheet document01 p k) s cs
 unfolding Run later
 gone-past shelf p here s [] o r k least most other = absurd (omega arith)
 gone-past shelf p here s (c ∷ cs) o r k least most other =
     by-move c (r .0) (moves o p here refl (step s c)) (λ l. further (gone-past shelf p here (after document01 s c) cs (step-in-order o (r .0) (step s c)) (r .1) k l most other))
   where
     by-move : (c : Call) → Possible (shelf .n) s c → Moves (shelf .n) s p c (after document01 s c)
-        → (turnOf (after document01 s c) p ≤ k → OneOf document01 (TakesSheet document01 p (sheetNo (later document01 (after document01 s c) cs) k .bytes)) s (c ∷ cs))
-        → OneOf document01 (TakesSheet document01 p (sheetNo (later document01 (after document01 s c) cs) k .bytes)) s (c ∷ cs)
+        → (turnOf (after document01 s c) p ≤ k → OneOf document01 (TakesSheet document01 p k) s (c ∷ cs))
+        → OneOf document01 (TakesSheet document01 p k) s (c ∷ cs)
     by-move c h (stays e) rest = rest (omega (arith, e))
     by-move c h (by-send own e) rest =
         let apart : turnOf s p ≢ k = λ z. other (rw z at own) in
         rest (omega (arith, e))
-    by-move c h (by-take it sent e) rest = by-number (ℕ-discrete (turnOf s p) k)
+    by-move c h (by-take it e) rest = by-number (ℕ-discrete (turnOf s p) k)
       where
-        by-number : Dec (turnOf s p ≡ k) → OneOf document01 (TakesSheet document01 p (sheetNo (later document01 (after document01 s (takes p)) cs) k .bytes)) s (takes p ∷ cs)
-        by-number (yes z) =
-            let kept = ap (λ (x : Sheet). x .bytes) (line-kept s (takes p ∷ cs) .same (turnOf s p) sent) in
-            first {s = s} {c = takes p} (rw (← z) (subst (λ (l : List ℕ). TakesSheet document01 p l s (takes p)) (sym kept) it))
+        by-number : Dec (turnOf s p ≡ k) → OneOf document01 (TakesSheet document01 p k) s (takes p ∷ cs)
+        by-number (yes z) = first {s = s} {c = takes p} (rw (← z) it)
         by-number (no z) = rest (omega (arith, e))

@@ -156,14 +156,14 @@ abbrev pub seesAnswer : Calls → ℕ → State → Call → Bool
 seesAnswer calls p s c = takeOfDesk p c && carriesContent (made calls s c .answer)
 
 module _ (calls : Calls) (p : ℕ) where
-  pub no-take : (sheet : List ℕ) (s : State) (cs : List Call)
+  pub no-take : (sheet : ℕ) (s : State) (cs : List Call)
       → someSeen calls (seesTake p) s cs ≡ false
       → OneOf calls (TakesSheet calls p sheet) s cs
       → ⊥
   no-take sheet s cs = unseen calls (TakesSheet calls p sheet) (seesTake p) sees
     where
       sees : (s : State) (c : Call) → TakesSheet calls p sheet s c → seesTake p s c ≡ true
-      sees s c (takes-it v e h) = eq-eqb p p refl
+      sees s c (takes-it v e l h) = eq-eqb p p refl
 
   one-answers : {cell : ℕ} {s : State} {cs : List Call} → ReadAnswered calls p cell s cs → OneOf calls (AnswersRead calls p cell) s cs
   one-answers (at-this {s} {c} {cs} h) = first {s = s} {c = c} h
