@@ -123,7 +123,7 @@ one-more turn low b =
     alone k = let h : k % 1 < 1 = mod-lt k (omega arith) in omega arith
 
     can : (entries : ℕ) × (sendOf (s .desk 0) lent .answer ≡ answered (sent (turnOf s 0) entries))
-    can = can-send o 0 (omega arith) (alone (length (s .line))) (omega (arith, b .is)) (own-last (o .desks 0 (omega arith)) (alone (turnOf s 0))) lent (length-replicate {A = ℕ} 396 0)
+    can = can-send o 0 (omega arith) (alone (length (s .line))) (omega (arith, b .is)) (own-last (o .desks 0 (omega arith)) (alone (turnOf s 0))) lent (omega (arith, length-replicate {A = ℕ} 396 0))
 
 none-yet : Brings 0
 unfolding Run runs.later start openOf

@@ -1,5 +1,7 @@
 -- A fresh shelf is in order, every call keeps it so, and so it is after every run: specs/InOrder.antt.
 --   stays-in-order : RunsStayInOrder
+--   not-far-ahead : NotFarAhead
+--   never-comes : NeverComes
 -- Assumes nothing.
 use Prim.Native.Nat.{ℕ, zero, suc, _+_, _*_, _<_}
 use mathlib.Core.Path.{_≡_, refl, ap}
@@ -12,18 +14,20 @@ use Rattle.answer.specs.Answer.{answered}
 use Rattle.answer.specs.Promises.{Silent}
 use Rattle.answer.proofs.Laws.{answered-if, changed-if}
 use Rattle.layout.proofs.Bytes.{zeros-bytes}
-use Rattle.tray.specs.Tray.{start, lengthAt, free}
+use Rattle.tray.specs.Tray.{lengthAt, free}
+use Rattle.tray.specs.Tray as tray
 use Rattle.desk.specs.declared.Desk.{Desk}
 use Rattle.desk.specs.Answers.{opened}
 use Rattle.desk.specs.Calls.{openRules, modeFor, blankDesk, freshHead, openOf}
 use Rattle.desk.proofs.Laws.Allowed.{open-if}
 use Rattle.keeping.proofs.Keeping.{open-is-sound}
 use Rattle.runs.specs.Calls.{Call, document01}
-use Rattle.runs.specs.Run.{Shelf, Within, State, after, Possible, Run, later}
-use Rattle.runs.specs.Run as run
-use Rattle.runs.specs.InOrder.{is-free, DeskInOrder, InOrder, RunsStayInOrder}
+use Rattle.runs.specs.Run.{Shelf, Within, State, start, after, Possible, Run, later}
+use Rattle.runs.specs.InOrder.{is-free, DeskInOrder, InOrder, RunsStayInOrder, NotFarAhead, Never, NeverComes}
 use Rattle.runs.proofs.Laws.Steps.{step}
+use Rattle.runs.proofs.Laws.Order.{near}
 use Rattle.runs.proofs.Laws.Keeps.{step-in-order}
+use Rattle.runs.proofs.Laws.Never.{barred, never}
 
 -- ---- a clear tray
 
@@ -33,7 +37,7 @@ clear (suc n) zero = refl
 clear (suc n) (suc i) = clear n i
 
 clear-free : (n q : ℕ) → free (replicate n 0) q ≡ true
-clear-free n q = eq-eqb (lengthAt (replicate n 0) q) 0 (rw (clear n (start q), clear n (start q + 1)))
+clear-free n q = eq-eqb (lengthAt (replicate n 0) q) 0 (rw (clear n (tray.start q), clear n (tray.start q + 1)))
 
 -- ---- a desk that was opened
 
@@ -73,8 +77,8 @@ module _ (shelf : Shelf) (w : Within shelf) (p : ℕ) (here : p < shelf .n) wher
         places = λ q l. is-free (clear-free (398 * shelf .n) q);
       }
 
-fresh : (shelf : Shelf) → Within shelf → InOrder shelf (run.start shelf)
-unfolding run.start
+fresh : (shelf : Shelf) → Within shelf → InOrder shelf (start shelf)
+unfolding start
 fresh shelf w = record { sheets = λ k l. absurd (omega arith); desks = fresh-desk shelf w }
 
 -- ---- calls
@@ -89,3 +93,22 @@ run-in-order shelf s (c ∷ cs) o r = run-in-order shelf (after document01 s c) 
 
 pub stays-in-order : RunsStayInOrder
 stays-in-order = record { opens = opens; fresh = fresh; call = call-in-order; run = run-in-order }
+
+pub not-far-ahead : NotFarAhead
+not-far-ahead shelf s o p here k sent = omega (arith, near (o .desks p here))
+
+-- ---- the refusals that never come
+
+never-in-a-run : (k : ℕ) → barred k ≡ true → Never k
+never-in-a-run k b shelf w cs r c here = never k b shelf (later document01 (start shelf) cs) c (run-in-order shelf (start shelf) cs (fresh shelf w) r) here
+
+pub never-comes : NeverComes
+never-comes =
+    record {
+      never-5 = never-in-a-run 5 refl;
+      never-12 = never-in-a-run 12 refl;
+      never-13 = never-in-a-run 13 refl;
+      never-14 = never-in-a-run 14 refl;
+      never-17 = never-in-a-run 17 refl;
+      never-21 = never-in-a-run 21 refl;
+    }

@@ -1,23 +1,26 @@
 -- The runs of specs/Played.antt, all by computing.
 -- Assumes nothing.
 use mathlib.Core.Path.{_≡_, refl, sym, _∙_}
-use mathlib.Core.Bool.{true, false, false≢true}
+use mathlib.Core.Bool.{true, false, not, _&&_, false≢true}
 use mathlib.Core.List.{List, [], _∷_, _++_}
-use mathlib.Core.Option.{none}
-use Prim.Native.Nat.{ℕ, _<_}
-use lib.Dec.{ltb}
+use Prim.Native.Nat.{ℕ, _%_, _<_}
+use native.Mathlib.Omega.{arith}
+use lib.Dec.{eqb, ltb}
 use lib.IntN.{pos}
 use lib.ListN.{length}
-use borrow.Author.Tests.{ltb-true}
+use borrow.Author.Tests.{ltb-true, eqb-false, not-true}
 use Rattle.answer.proofs.Laws.{refused-is-not-answered}
 use Rattle.content.specs.declared.Content.the-variants.{Day}
+use Rattle.sheet.proofs.Laws.Bools.{and-split}
 use Rattle.tray.specs.Tray.{sheetAt}
 use Rattle.desk.specs.Calls.{lastTurn}
 use Rattle.runs.specs.Calls.{Call, document01, reads, delivers, takes}
-use Rattle.runs.specs.Run.{Within, State, sheetNo, start}
-use Rattle.runs.specs.TurnRules.{now, turnOf, HasTurn, CanSend, is-held, answers-it}
+use Rattle.runs.specs.Run.{Shelf, Within, State, sheetNo, start, Run}
+use Rattle.runs.specs.TurnRules.{now, turnOf, HasTurn, CanSend, CanTake, answers-it}
 use Rattle.runs.specs.Played.{twoDesks, threeDesks, lent, listingCalls, listingAnswers, ListingIsARun, HoldsUntaken, oneSheet, twoSheets, TwoHold, beforeTheRead, whileItWaits, untilAnswered, waitAnswers, sinceTheRead, LongestWait, sheetOnTheLine, NobodySends, threeSheets, threeSheetsAnswers, Furthest, RunsPlayed}
-use Rattle.runs.proofs.Laws.Tested.{computing, below-two, sized, is-possible, is-run, answered-last, someSeen, seesTake, no-take, no-answer}
+use Rattle.runs.proofs.InOrder.{stays-in-order}
+use Rattle.runs.proofs.Laws.Going.{can-take}
+use Rattle.runs.proofs.Laws.Tested.{computing, below-two, below-three, sized, is-possible, is-run, answered-last, someSeen, seesTake, no-take, no-answer}
 
 pub two-within : Within twoDesks
 two-within = sized 2 2 1 refl
@@ -53,6 +56,17 @@ module _ (cs : List Call) (p k : ℕ) where
             };
       }
 
+-- a desk whose turn number is below the line and not its own can take
+takes-next : (shelf : Shelf) → Within shelf → (cs : List Call) (p : ℕ) → Run document01 (shelf .n) (start shelf) cs
+    → (let k = turnOf (now document01 shelf cs) p in ltb p (shelf .n) && ltb k (length (now document01 shelf cs .line)) && not (eqb (k % shelf .n) p) && ltb k lastTurn ≡ true)
+    → CanTake document01 (now document01 shelf cs) p
+takes-next shelf w cs p r e =
+    let k = turnOf (now document01 shelf cs) p in
+    let low = and-split (ltb p (shelf .n) && ltb k (length (now document01 shelf cs .line)) && not (eqb (k % shelf .n) p)) (ltb k lastTurn) e in
+    let other = and-split (ltb p (shelf .n) && ltb k (length (now document01 shelf cs .line))) (not (eqb (k % shelf .n) p)) (low .0) in
+    let behind = and-split (ltb p (shelf .n)) (ltb k (length (now document01 shelf cs .line))) (other .0) in
+    can-take (stays-in-order .run shelf (start shelf) cs (stays-in-order .fresh shelf w) r) p (ltb-true _ _ (behind .0)) (ltb-true _ _ (behind .1)) (eqb-false (k % shelf .n) p (not-true _ (other .1))) (ltb-true _ _ (low .1))
+
 two-hold : TwoHold
 unfolding computing lent oneSheet twoSheets empty
 two-hold =
@@ -60,6 +74,9 @@ two-hold =
       one-plays = record { within = three-within; run = is-run document01 3 (start threeDesks) oneSheet refl; answers-are = refl };
       desk-1 = holds-untaken oneSheet 1 0 refl refl refl refl;
       desk-2 = holds-untaken oneSheet 2 0 refl refl refl refl;
+      no-turn = below-three (λ p. HasTurn (now document01 threeDesks oneSheet) p → ⊥) false≢true false≢true false≢true;
+      there-already = refl;
+      can-take = takes-next threeDesks three-within oneSheet 1 (is-run document01 3 (start threeDesks) oneSheet refl) refl;
       two-play = record { within = three-within; run = is-run document01 3 (start threeDesks) twoSheets refl; answers-are = refl };
       from-desk-0 = refl;
       from-desk-1 = refl;
@@ -82,7 +99,7 @@ longest-wait =
       not-yet = no-answer document01 0 1 sinceTheRead whileItWaits refl;
       two-takes = refl;
       at-last =
-          answered-last document01 0 1 sinceTheRead whileItWaits (takes 0) refl (answers-it 2 1 1 (Day (pos 9)) refl refl);
+          answered-last document01 0 1 sinceTheRead whileItWaits (takes 0) refl (answers-it 2 1 1 (Day (pos 9)) refl refl refl);
     }
 
 nobody-sends : NobodySends
@@ -96,20 +113,9 @@ nobody-sends =
       no-turn = below-two (λ p. HasTurn s p → ⊥) false≢true false≢true;
       no-send =
           below-two (λ p. CanSend document01 s p → ⊥)
-          (λ can. refused-is-not-answered 9 _ (can lent refl .1))
-          (λ can. refused-is-not-answered 9 _ (can lent refl .1));
-      next-sheet =
-          record {
-            k = 0;
-            sent = ltb-true 0 1 refl;
-            from = refl;
-            turn = refl;
-            arrives = is-held refl;
-            entries = 0;
-            applied = 0;
-            waited = none;
-            accepted = refl;
-          };
+          (λ can. refused-is-not-answered 9 _ (can lent (omega arith) .1))
+          (λ can. refused-is-not-answered 9 _ (can lent (omega arith) .1));
+      next-sheet = takes-next twoDesks two-within sheetOnTheLine 1 (is-run document01 2 (start twoDesks) sheetOnTheLine refl) refl;
     }
 
 furthest : Furthest

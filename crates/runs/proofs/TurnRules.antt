@@ -18,12 +18,11 @@ use Rattle.runs.specs.Calls.{Call, document01, reads}
 use Rattle.runs.specs.Run.{Shelf, Within, State, sheetNo, start, after, Run}
 use Rattle.runs.specs.InOrder.{InOrder}
 use Rattle.runs.specs.TurnRules.{now, turnOf, HasTurn, Untaken, OneTurn, OneSheet, WaitEnds, Demand3}
-use Rattle.runs.proofs.InOrder.{stays-in-order}
+use Rattle.runs.proofs.InOrder.{stays-in-order, never-comes}
 use Rattle.runs.proofs.Laws.Cyclic.{window, Next, next}
 use Rattle.runs.proofs.Laws.Steps.{put-same, Step, is-refused, is-read, is-waiting, step}
 use Rattle.runs.proofs.Laws.Order.{desk-sound, own-last, near, turn-desk}
 use Rattle.runs.proofs.Laws.Keeps.{step-in-order}
-use Rattle.runs.proofs.Laws.Never.{never-comes}
 use Rattle.runs.proofs.Laws.Taken.{gone-past}
 use Rattle.runs.proofs.Laws.Going.{going}
 use Rattle.runs.proofs.Laws.Waiting.{wait-ended}
@@ -104,7 +103,7 @@ turn-rules shelf w cs r =
     record {
       one-turn = one-turn shelf w cs r;
       one-sheet = one-sheet shelf w cs r;
-      no-17 = λ c here. never-comes .never-17 shelf (now document01 shelf cs) c (o shelf w cs r) here;
+      no-17 = never-comes .never-17 shelf w cs r;
       goes-on = λ before. going shelf (now document01 shelf cs) (o shelf w cs r) 0 (w .desks-least) (before 0 (w .desks-least));
       wait-ends = wait-ends shelf w cs r;
     }

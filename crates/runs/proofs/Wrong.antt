@@ -81,7 +81,7 @@ goes-on =
     before-the-end = below-two (λ p. turnOf stuck p < lastTurn) (ltb-true 3 lastTurn refl) (ltb-true 2 lastTurn refl)
 
     neither : (p : ℕ) → p < 2 → CanSend takeLeavesSheet stuck p ⊎ CanTake takeLeavesSheet stuck p → ⊥
-    neither p h (inl can) = refused-is-not-answered 9 _ (sym (no-send p h) ∙ can lent refl .1)
+    neither p h (inl can) = refused-is-not-answered 9 _ (sym (no-send p h) ∙ can lent (omega arith) .1)
     neither p h (inr can) = refused-is-not-answered 21 _ (sym (no-next p h (can .k) (can .sent)) ∙ can .accepted)
 
 wait-ends : Bites WaitEnds readEndsAtSend twoDesks oneWritten

@@ -6,7 +6,7 @@ use mathlib.Core.Path.{_≡_}
 use mathlib.Core.Logic.{_≢_}
 use mathlib.Core.Bool.{true}
 use mathlib.Core.List.{List}
-use Prim.Native.Nat.{ℕ, _*_, _%_, _≤_, _<_}
+use Prim.Native.Nat.{ℕ, _+_, _*_, _%_, _≤_, _<_}
 use lib.ListN.{length}
 use Rattle.answer.specs.Answer.{refused, answered}
 use Rattle.layout.specs.Layout.{trailerIn}
@@ -66,10 +66,17 @@ pub record RunsStayInOrder : Type 0 where
   pub run : (shelf : Shelf) (s : State) (cs : List Call) → InOrder shelf s → Run document01 (shelf .n) s cs
       → InOrder shelf (later document01 s cs)
 
--- a refusal that never comes, whichever call is next
+-- how far ahead of a desk a sheet can be: of the n numbers from its turn number on one is the desk's own, and not sent; so turn number + n - 2 is the
+-- most. That is two below where 17 begins
+abbrev pub NotFarAhead : Type 0
+NotFarAhead =
+    (shelf : Shelf) (s : State) → InOrder shelf s → (p : ℕ) → p < shelf .n → (k : ℕ) → k < length (s .line) → k + 2 ≤ s .desk p .head .turn + shelf .n
+
+-- a refusal that never comes in a run, whichever call is next
 abbrev pub Never : ℕ → Type 0
 Never k =
-    (shelf : Shelf) (s : State) (c : Call) → InOrder shelf s → Possible (shelf .n) s c → made document01 s c .answer ≢ refused k
+    (shelf : Shelf) → Within shelf → (cs : List Call) → Run document01 (shelf .n) (start shelf) cs
+    → (c : Call) → Possible (shelf .n) (later document01 (start shelf) cs) c → made document01 (later document01 (start shelf) cs) c .answer ≢ refused k
 
 -- 5 "record not sound", 12 "tray length not 398 × n", 13 "sheet not good", 14 "sheet's desks or cells differ from the record's", 17 "sheet's number at or
 -- above turn number + n", 21 "place does not hold a good sheet of this shelf with that sender and turn number, followed by zeros"

@@ -78,11 +78,11 @@ pub record HoldsUntaken (shelf : Shelf) (cs : List Call) (p k : ℕ) : Type 0 wh
   pub in-tray : (let s = now document01 shelf cs in sheetAt (s .tray p) (sheetNo s k .from) ≡ sheetNo s k .bytes)
   pub untaken : Untaken document01 shelf cs p k
 
--- desk 0 sends sheet 0, and desks 1 and 2 are delivered it
+-- desk 0 sends sheet 0, and it is delivered to desks 1 and 2
 unfoldable pub oneSheet : List Call
 oneSheet = sends 0 lent ∷ delivers 1 0 ∷ delivers 2 0 ∷ []
 
--- then desk 1 takes it and sends sheet 1, and desk 2 is delivered that
+-- then desk 1 takes it and sends sheet 1, which is delivered to desk 2
 unfoldable pub twoSheets : List Call
 twoSheets = sends 0 lent ∷ delivers 1 0 ∷ delivers 2 0 ∷ takes 1 ∷ sends 1 lent ∷ delivers 2 1 ∷ []
 
@@ -91,6 +91,10 @@ pub record TwoHold : Type 0 where
   -- two desks hold the same sheet
   pub desk-1 : HoldsUntaken threeDesks oneSheet 1 0
   pub desk-2 : HoldsUntaken threeDesks oneSheet 2 0
+  -- no desk has its turn, and the sheet, delivered again, gets 18, since it is there; desk 1 can take it
+  pub no-turn : (p : ℕ) → p < 3 → HasTurn (now document01 threeDesks oneSheet) p → ⊥
+  pub there-already : made document01 (now document01 threeDesks oneSheet) (delivers 1 0) .answer ≡ refused 18
+  pub can-take : CanTake document01 (now document01 threeDesks oneSheet) 1
   pub two-play :
       Plays threeDesks twoSheets
       (answered (sent 0 0) ∷ answered held ∷ answered held ∷ answered (taken 0 0 0 none) ∷ answered (sent 1 0) ∷ answered held ∷ [])
@@ -106,7 +110,7 @@ pub record TwoHold : Type 0 where
 unfoldable pub beforeTheRead : List Call
 beforeTheRead = sends 0 lent ∷ writes 0 0 Open ∷ []
 
--- it takes desk 1's sheet; desk 2 writes that cell, takes both sheets and sends, and desk 0 is delivered this one
+-- it takes desk 1's sheet; desk 2 writes that cell, takes both sheets and sends, and its sheet is delivered to desk 0
 unfoldable pub whileItWaits : List Call
 whileItWaits =
     delivers 1 0
@@ -167,7 +171,7 @@ sheetOnTheLine = sends 0 lent ∷ []
 pub record NobodySends : Type 0 where
   -- on a fresh shelf desk 0 "has its own turn"
   pub fresh : HasTurn (now document01 twoDesks []) 0
-  -- when it has sent, no desk has until desk 1 takes that sheet
+  -- when it has sent, no desk has, and desk 1 can take that sheet
   pub plays : Plays twoDesks sheetOnTheLine (answered (sent 0 0) ∷ [])
   pub before-the-end : BeforeTheEnd 2 (now document01 twoDesks sheetOnTheLine)
   pub no-turn : (p : ℕ) → p < 2 → HasTurn (now document01 twoDesks sheetOnTheLine) p → ⊥

@@ -6,7 +6,7 @@ use mathlib.Core.Logic.{_≢_, _⊎_}
 use mathlib.Core.Bool.{Bool, true, false, cond, _&&_}
 use mathlib.Core.List.{List, [], _∷_}
 use mathlib.Core.Option.{Option, some}
-use Prim.Native.Nat.{ℕ, _+_, _-_, _<_}
+use Prim.Native.Nat.{ℕ, _+_, _-_, _≤_, _<_}
 use lib.Dec.{eqb}
 use lib.ListN.{length}
 use Rattle.answer.specs.Answer.{Answer, refused, answered}
@@ -43,7 +43,7 @@ pub data OneOf (calls : Calls) (such : State → Call → Type 0) : State → Li
   first : {s : State} {c : Call} {cs : List Call} → such s c → OneOf calls such s (c ∷ cs)
   further : {s : State} {c : Call} {cs : List Call} → OneOf calls such (after calls s c) cs → OneOf calls such s (c ∷ cs)
 
--- an accepted take of desk p that takes this sheet: those bytes are in the place of the desk whose turn it is
+-- an accepted take of desk p that takes sheet k: this was sent before, and its bytes are in the place of the desk whose turn it is
 pub data TakesSheet (calls : Calls) (p k : ℕ) (s : State) : Call → Type 0 where
   takes-it : (v : Value)
       → made calls s (takes p) .answer ≡ answered v
@@ -51,15 +51,15 @@ pub data TakesSheet (calls : Calls) (p k : ℕ) (s : State) : Call → Type 0 wh
       → sheetAt (s .tray p) (turnDesk (s .desk p .head)) ≡ sheetNo s k .bytes
       → TakesSheet calls p k s (takes p)
 
--- sheet k is "sent" when these calls have been made on a fresh shelf, and "untaken" by desk p: none of them took it there
+-- sheet k is "sent" when these calls have been made on a fresh shelf, and "untaken" by desk p: none of them took it
 pub record Untaken (calls : Calls) (shelf : Shelf) (cs : List Call) (p k : ℕ) : Type 0 where
   pub sent : k < length (now calls shelf cs .line)
   pub untaken : OneOf calls (TakesSheet calls p k) (start shelf) cs → ⊥
 
--- desk p "can send into 396 bytes": whatever they are, the send is carried out with the desk's turn number
+-- desk p "can send into 396 bytes", or more: whatever they are, the send is carried out with the desk's turn number
 abbrev pub CanSend : Calls → State → ℕ → Type 0
 CanSend calls s p =
-    (buffer : List ℕ) → length buffer ≡ 396 → (entries : ℕ) × (made calls s (sends p buffer) .answer ≡ answered (sent (turnOf s p) entries))
+    (buffer : List ℕ) → 396 ≤ length buffer → (entries : ℕ) × (made calls s (sends p buffer) .answer ≡ answered (sent (turnOf s p) entries))
 
 -- a delivery of sheet k to desk p: it is held, or refused with 18 because it is there already
 pub data Arrives (calls : Calls) (s : State) (p k : ℕ) : Type 0 where
@@ -69,19 +69,20 @@ pub data Arrives (calls : Calls) (s : State) (p k : ℕ) : Type 0 where
       → Arrives calls s p k
 
 -- desk p "can take its next sheet, one already sent, once delivered": sheet k is from the desk whose turn it is and has the desk's turn number;
--- after a delivery of it the take is accepted, with that turn number
+-- after a delivery of it, it is in that desk's place, and the take is accepted, with that turn number
 pub record CanTake (calls : Calls) (s : State) (p : ℕ) : Type 0 where
   pub k : ℕ
   pub sent : k < length (s .line)
   pub from : sheetNo s k .from ≡ turnDesk (s .desk p .head)
   pub turn : trailerIn (sheetNo s k .bytes) .turn ≡ turnOf s p
   pub arrives : Arrives calls s p k
+  pub in-place : (let t = after calls s (delivers p k) in sheetAt (t .tray p) (turnDesk (t .desk p .head)) ≡ sheetNo s k .bytes)
   pub entries : ℕ
   pub applied : ℕ
   pub waited : Option Content
   pub accepted : made calls (after calls s (delivers p k)) (takes p) .answer ≡ answered (taken (turnOf s p) entries applied waited)
 
--- how many of these calls are accepted takes of desk p
+-- the call is a take of desk p
 abbrev pub takeOfDesk : ℕ → Call → Bool
 takeOfDesk p (writes q cell c) = false
 takeOfDesk p (reads q cell) = false
@@ -89,10 +90,12 @@ takeOfDesk p (sends q buffer) = false
 takeOfDesk p (delivers q k) = false
 takeOfDesk p (takes q) = eqb q p
 
+-- it is not refused
 abbrev pub accepted : Answer Value → Bool
 accepted (refused k) = false
 accepted (answered v) = true
 
+-- how many of these calls are accepted takes of desk p
 unfoldable pub takesBy : Calls → ℕ → State → List Call → ℕ
 takesBy calls p s [] = 0
 takesBy calls p s (c ∷ cs) = cond (takeOfDesk p c && accepted (made calls s c .answer)) 1 0 + takesBy calls p (after calls s c) cs
@@ -101,18 +104,19 @@ takesBy calls p s (c ∷ cs) = cond (takeOfDesk p c && accepted (made calls s c 
 abbrev pub ReadWaits : State → ℕ → ℕ → Type 0
 ReadWaits s p cell = (readWaits (s .desk p .head) ≡ true) × (waitCell (s .desk p .head) ≡ cell)
 
--- an accepted take of desk p that answers the read of this cell: with what the shelf then has there
+-- an accepted take of desk p that answers the read of this cell, with what the shelf then has there, "and the read is over"
 pub data AnswersRead (calls : Calls) (p cell : ℕ) (s : State) : Call → Type 0 where
   answers-it : (turn entries applied : ℕ) (c : Content)
       → made calls s (takes p) .answer ≡ answered (taken turn entries applied (some c))
       → (let d = after calls s (takes p) .desk p in c ≡ contentAt (d .kind) (d .day) cell)
+      → readWaits (after calls s (takes p) .desk p .head) ≡ false
       → AnswersRead calls p cell s (takes p)
 
 -- one of these calls answers it, and until then it waits
 pub data ReadAnswered (calls : Calls) (p cell : ℕ) : State → List Call → Type 0 where
-  at-this : {s : State} {c : Call} {cs : List Call} → AnswersRead calls p cell s c → ReadAnswered calls p cell s (c ∷ cs)
+  at-this : {s : State} {c : Call} {cs : List Call} → ReadWaits s p cell → AnswersRead calls p cell s c → ReadAnswered calls p cell s (c ∷ cs)
   waits-on : {s : State} {c : Call} {cs : List Call}
-      → ReadWaits (after calls s c) p cell
+      → ReadWaits s p cell
       → ReadAnswered calls p cell (after calls s c) cs
       → ReadAnswered calls p cell s (c ∷ cs)
 
@@ -151,7 +155,8 @@ WaitEnds calls shelf cs =
     → takesBy calls p (after calls (now calls shelf cs) (reads p cell)) ds ≡ shelf .n - 1
     → ReadAnswered calls p cell (after calls (now calls shelf cs) (reads p cell)) ds
 
--- The premise "While no desk's turn number has reached its end" is needed in the fourth part alone: the others are so from then on, too.
+-- "While no desk's turn number has reached its end" is a premise of the fourth part alone: the others are so from then on, too. (What is left of the
+-- fourth then is said in specs/AtTheEnd.antt.)
 pub record TurnRules (calls : Calls) (shelf : Shelf) (cs : List Call) : Type 0 where
   pub one-turn : OneTurn calls shelf cs
   pub one-sheet : OneSheet calls shelf cs

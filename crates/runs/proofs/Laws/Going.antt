@@ -4,7 +4,7 @@
 --   can-take              or else its next sheet is sent, and once delivered it takes it
 --   going                 so one of the two
 -- Assumes nothing.
-use Prim.Native.Nat.{ℕ, _*_, _%_, _<_}
+use Prim.Native.Nat.{ℕ, _*_, _%_, _≤_, _<_}
 use mathlib.Core.Path.{_≡_, refl, sym, ap, _∙_}
 use mathlib.Core.Logic.{_≢_, _⊎_, inl, inr}
 use mathlib.Core.Bool.{false, not, false≢true}
@@ -47,7 +47,7 @@ module _ {shelf : Shelf} {line : List Sheet} {p : ℕ} {d : Desk} {tray : List �
   before-end : eqb (d .head .turn) lastTurn ≡ false
   before-end = ne-eqb (d .head .turn) lastTurn (λ e. omega (arith, e))
 
-  sends-now : d .head .turn % shelf .n ≡ p → (buffer : List ℕ) → length buffer ≡ 396 → SendAllowed d buffer
+  sends-now : d .head .turn % shelf .n ≡ p → (buffer : List ℕ) → 396 ≤ length buffer → SendAllowed d buffer
   sends-now own buffer long =
       record {
         is-sound = o .is-sound;
@@ -134,7 +134,7 @@ module _ {shelf : Shelf} {s : State} (o : InOrder shelf s) (p : ℕ) (here : p <
   after-arrival (old there full) = (refl, full)
 
   then-taken : (t : State) → InOrder shelf t → k < lastTurn → (t .desk p ≡ s .desk p) × (free (t .tray p) (turnDesk (d .head)) ≡ false)
-      → (entries applied : ℕ) × (waited : Option Content) × (made document01 t (takes p) .answer ≡ answered (taken k entries applied waited))
+      → (entries applied : ℕ) × (waited : Option Content) × (made document01 t (takes p) .answer ≡ answered (taken k entries applied waited)) × (sheetAt (t .tray p) (turnDesk (t .desk p .head)) ≡ sheetNo t k .bytes)
   unfolding takeOf
   then-taken t later-order low arrival =
       let turn : t .desk p .head .turn ≡ k = ap (λ (y : Desk). y .head .turn) (arrival .0) in
@@ -145,7 +145,11 @@ module _ {shelf : Shelf} {s : State} (o : InOrder shelf s) (p : ℕ) (here : p <
       let entries : ℕ = length es in
       let applied : ℕ = wentOf (goes (causal (y .head)) (y .pkind)) es in
       let waited : Option Content = waitedFor (y .head) (takenDesk y es) in
-      (entries, applied, waited, answered-if (takeRules y (t .tray p)) (takenBy y (t .tray p)) silent ∙ ap (λ (n : ℕ). answered (taken n entries applied waited)) turn)
+      (entries, applied, waited, answered-if (takeRules y (t .tray p)) (takenBy y (t .tray p)) silent ∙ ap (λ (n : ℕ). answered (taken n entries applied waited)) turn, next-held (later-order .desks p here) full .is ∙ ap (λ (j : ℕ). sheetNo t j .bytes) turn)
+
+  same-line : {a : Answer Value} {t : State} → Step s (delivers p k) a t → sheetNo t k .bytes ≡ sheetNo s k .bytes
+  same-line (steps.is-refused c j f) = refl
+  same-line (steps.is-held q j silent) = refl
 
   pub can-take : k < lastTurn → CanTake document01 s p
   can-take low =
@@ -157,6 +161,7 @@ module _ {shelf : Shelf} {s : State} (o : InOrder shelf s) (p : ℕ) (here : p <
         from = from-is;
         turn = x .turn;
         arrives = as-held-or-there refl arrival;
+        in-place = took .4 ∙ same-line (step s (delivers p k));
         entries = took .0;
         applied = took .1;
         waited = took .2;

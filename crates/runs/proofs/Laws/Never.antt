@@ -1,7 +1,6 @@
 -- The refusals that never come where all is in order (specs/InOrder.antt).
 --   next-is-next          what the place of the desk whose turn it is holds passes the test of a take
---   never                 none of the six numbers comes
---   never-comes : NeverComes
+--   barred, never         none of the six numbers comes
 -- Assumes nothing.
 use Prim.Native.Nat.{ℕ, _+_, _*_, _<_}
 use mathlib.Core.Path.{_≡_, refl, sym, ap, _∙_, subst}
@@ -23,9 +22,9 @@ use Rattle.desk.specs.Answers.{Value}
 use Rattle.desk.specs.Calls.{sound, trayFits, isNext}
 use Rattle.desk.proofs.Laws.Next.{Next, next-if}
 use Rattle.keeping.proofs.Laws.Rules.{Off, never-given}
-use Rattle.runs.specs.Calls.{Call, writes, reads, sends, delivers, takes}
-use Rattle.runs.specs.Run.{Shelf, Sheet, sheetOn, State, Possible}
-use Rattle.runs.specs.InOrder.{SheetInOrder, DeskInOrder, InOrder, Never, NeverComes}
+use Rattle.runs.specs.Calls.{Call, document01, writes, reads, sends, delivers, takes}
+use Rattle.runs.specs.Run.{Shelf, Sheet, sheetOn, State, made, Possible}
+use Rattle.runs.specs.InOrder.{SheetInOrder, DeskInOrder, InOrder}
 use Rattle.runs.proofs.Laws.Order.{near, turn-desk, next-held}
 use Rattle.runs.proofs.Laws.Steps.{rulesOf, Step, is-refused, is-stored, is-read, is-waiting, is-sent, is-held, is-taken, step}
 
@@ -54,7 +53,7 @@ module _ {shelf : Shelf} {line : List Sheet} {p : ℕ} {d : Desk} {tray : List �
 
 -- ---- the six
 
-abbrev barred : ℕ → Bool
+abbrev pub barred : ℕ → Bool
 barred k = eqb k 5 || eqb k 12 || eqb k 13 || eqb k 14 || eqb k 17 || eqb k 21
 
 module _ (shelf : Shelf) (s : State) (o : InOrder shelf s) (k : ℕ) (b : barred k ≡ true) where
@@ -99,16 +98,5 @@ module _ (shelf : Shelf) (s : State) (o : InOrder shelf s) (k : ℕ) (b : barred
   not-in here (is-held p j silent) e = refused-is-not-answered _ _ (sym e)
   not-in here (is-taken p silent) e = refused-is-not-answered _ _ (sym e)
 
-pub never : (k : ℕ) → barred k ≡ true → Never k
+pub never : (k : ℕ) → barred k ≡ true → (shelf : Shelf) (s : State) (c : Call) → InOrder shelf s → Possible (shelf .n) s c → made document01 s c .answer ≢ refused k
 never k b shelf s c o here = not-in shelf s o k b here (step s c)
-
-pub never-comes : NeverComes
-never-comes =
-    record {
-      never-5 = never 5 refl;
-      never-12 = never 12 refl;
-      never-13 = never 13 refl;
-      never-14 = never 14 refl;
-      never-17 = never 17 refl;
-      never-21 = never 21 refl;
-    }

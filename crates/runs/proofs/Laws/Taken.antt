@@ -4,7 +4,7 @@
 --   gone-past             the calls that brought a desk's turn number from below k to above it have a take of sheet k, or k is the desk's own
 -- Assumes nothing.
 use Prim.Native.Nat.{ℕ, _+_, _%_, _≤_, _<_}
-use mathlib.Core.Path.{_≡_, refl, sym, ap, _∙_, subst}
+use mathlib.Core.Path.{_≡_, refl, ap, _∙_}
 use mathlib.Core.Logic.{_≢_}
 use mathlib.Core.List.{List, [], _∷_, _++_}
 use native.Mathlib.Omega.{arith}
@@ -19,7 +19,7 @@ use Rattle.desk.specs.Answers.{Value}
 use Rattle.desk.specs.Calls.{writtenDesk, waitingDesk, sentDesk, takeRules, entriesTaken, takenDesk}
 use Rattle.desk.proofs.Laws.Allowed.{take-allows}
 use Rattle.runs.specs.Calls.{Call, document01, sends, takes}
-use Rattle.runs.specs.Run.{Shelf, Sheet, sheetOn, State, sheetNo, made, put, after, Possible, Run, later}
+use Rattle.runs.specs.Run.{Shelf, Sheet, sheetOn, State, made, put, after, Possible, Run, later}
 use Rattle.runs.specs.InOrder.{InOrder}
 use Rattle.runs.specs.TurnRules.{turnOf, OneOf, first, further, TakesSheet, takes-it}
 use Rattle.runs.proofs.Laws.Steps.{put-same, put-other, sheetBy, Step, is-refused, is-stored, is-read, is-waiting, is-sent, is-held, is-taken, step}

@@ -33,7 +33,7 @@ use Rattle.desk.specs.Answers.{Value, opened, stored, holds, waits, sent, held,
 use Rattle.desk.specs.Calls.{openOf, writeOf, mustWait, readOf, sendOf, deliverOf, takeOf}
 use Rattle.runs.specs.Calls.{Calls, Call, writes, reads, sends, delivers, takes}
 use Rattle.runs.specs.Run.{Within, State, start, made, put, after, Possible, Run, later, answers}
-use Rattle.runs.specs.TurnRules.{OneOf, first, further, TakesSheet, takes-it, AnswersRead, answers-it, ReadAnswered, at-this, waits-on, takeOfDesk, takesBy}
+use Rattle.runs.specs.TurnRules.{ReadWaits, OneOf, first, further, TakesSheet, takes-it, AnswersRead, answers-it, ReadAnswered, at-this, waits-on, takeOfDesk, takesBy}
 
 -- the definitions of the calls and of a run, and those that they rest on: to unfold this is to unfold all of them
 unfoldable pub computing : Unit {0}
@@ -102,23 +102,28 @@ is-run calls n s (c ∷ cs) e =
 
 -- ---- a read that waits
 
+abbrev pub waitsAt : ℕ → ℕ → State → Bool
+waitsAt p cell s = readWaits (s .desk p .head) && eqb (waitCell (s .desk p .head)) cell
+
+waits-at : (p cell : ℕ) (s : State) → waitsAt p cell s ≡ true → ReadWaits s p cell
+waits-at p cell s e =
+    let h = s .desk p .head in
+    let t = and-split (readWaits h) (eqb (waitCell h) cell) e in
+    (t .0, eqb-true (waitCell h) cell (t .1))
+
 abbrev pub waitsOn : Calls → (p cell : ℕ) → State → List Call → Bool
-waitsOn calls p cell s [] = true
-waitsOn calls p cell s (c ∷ cs) =
-    let h = after calls s c .desk p .head in
-    (readWaits h && eqb (waitCell h) cell) && waitsOn calls p cell (after calls s c) cs
+waitsOn calls p cell s [] = waitsAt p cell s
+waitsOn calls p cell s (c ∷ cs) = waitsAt p cell s && waitsOn calls p cell (after calls s c) cs
 
 pub answered-last : (calls : Calls) (p cell : ℕ) (s : State) (cs : List Call) (c : Call)
     → waitsOn calls p cell s cs ≡ true
     → AnswersRead calls p cell (later calls s cs) c
     → ReadAnswered calls p cell s (cs ++ c ∷ [])
 unfolding later
-answered-last calls p cell s [] c e h = at-this h
+answered-last calls p cell s [] c e h = at-this (waits-at p cell s e) h
 answered-last calls p cell s (d ∷ cs) c e h =
-    let at = after calls s d .desk p .head in
-    let t = and-split (readWaits at && eqb (waitCell at) cell) _ e in
-    let w = and-split (readWaits at) _ (t .0) in
-    waits-on (w .0, eqb-true (waitCell at) cell (w .1)) (answered-last calls p cell (after calls s d) cs c (t .1) h)
+    let t = and-split (waitsAt p cell s) (waitsOn calls p cell (after calls s d) cs) e in
+    waits-on (waits-at p cell s (t .0)) (answered-last calls p cell (after calls s d) cs c (t .1) h)
 
 -- ---- none of these calls
 
@@ -166,7 +171,7 @@ module _ (calls : Calls) (p : ℕ) where
       sees s c (takes-it v e l h) = eq-eqb p p refl
 
   one-answers : {cell : ℕ} {s : State} {cs : List Call} → ReadAnswered calls p cell s cs → OneOf calls (AnswersRead calls p cell) s cs
-  one-answers (at-this {s} {c} {cs} h) = first {s = s} {c = c} h
+  one-answers (at-this {s} {c} {cs} w h) = first {s = s} {c = c} h
   one-answers (waits-on w h) = further (one-answers h)
 
   pub no-answer : (cell : ℕ) (s : State) (cs : List Call)
@@ -176,4 +181,4 @@ module _ (calls : Calls) (p : ℕ) where
   no-answer cell s cs e a = unseen calls (AnswersRead calls p cell) (seesAnswer calls p) sees e (one-answers a)
     where
       sees : (s : State) (c : Call) → AnswersRead calls p cell s c → seesAnswer calls p s c ≡ true
-      sees s c (answers-it turn entries applied content e h) = rw (eq-eqb p p refl, e)
+      sees s c (answers-it turn entries applied content e h over) = rw (eq-eqb p p refl, e)

@@ -83,6 +83,7 @@ module _ {shelf : Shelf} {s : State} (o : InOrder shelf s) (p : ℕ) (here : p <
       answers-it (d .head .turn) (length es) (wentOf (goes (causal (d .head)) (d .pkind)) es) (contentAt (then .kind) (then .day) cell)
       (a ∙ ap (λ (x : Option Content). answered (taken (d .head .turn) (length es) (wentOf (goes (causal (d .head)) (d .pkind)) es) x)) (waited-for e))
       (ap (λ (x : Desk). contentAt (x .kind) (x .day) cell) (sym same))
+      (ap (λ (x : Desk). readWaits (x .head)) same ∙ rw e)
 
   -- where it does not, the read goes on waiting, and the turn is not yet the desk's own
   not-yet : readEnds (d .head) ≡ false → (then .head .wait ≡ cell + 1) × ((d .head .turn + 1) % shelf .n ≢ p)
@@ -101,7 +102,7 @@ unfolding Run takesBy
 wait-ended shelf p here cell k own s [] o r w least most = absurd (omega arith)
 wait-ended shelf p here cell k own s (c ∷ ds) o r w least most =
     by-pass c refl (passes o p here (λ z. omega (arith, w, z)) (step s c)) most
-    (λ w′ l m. waits-on (it-waits (after document01 s c) p cell w′) (wait-ended shelf p here cell k own (after document01 s c) ds (step-in-order o (r .0) (step s c)) (r .1) w′ l m))
+    (λ w′ l m. waits-on (it-waits s p cell w) (wait-ended shelf p here cell k own (after document01 s c) ds (step-in-order o (r .0) (step s c)) (r .1) w′ l m))
   where
     by-pass : (c : Call) {a : Answer Value} → made document01 s c .answer ≡ a → Passes s p c a (after document01 s c)
         → k ≤ turnOf s p + (cond (takeOfDesk p c && accepted a) 1 0 + takesBy document01 p (after document01 s c) ds)
@@ -114,7 +115,7 @@ wait-ended shelf p here cell k own s (c ∷ ds) o r w least most =
     by-pass c e (by-take same) m rest = by-end (readEnds (s .desk p .head)) refl
       where
         by-end : (t : Bool) → readEnds (s .desk p .head) ≡ t → ReadAnswered document01 p cell s (takes p ∷ ds)
-        by-end true ends = at-this (answers-now o p here cell w e same ends)
+        by-end true ends = at-this (it-waits s p cell w) (answers-now o p here cell w e same ends)
         by-end false ends =
             let on = not-yet o p here cell w ends in
             let turn : turnOf (after document01 s (takes p)) p ≡ turnOf s p + 1 = ap (λ (x : Desk). x .head .turn) same in
