@@ -2,5 +2,6 @@ pub mod Laws
 pub mod InOrder
 pub mod TurnRules
 pub mod AtTheEnd
+pub mod TheEndComes
 pub mod Played
 pub mod Wrong

@@ -4,15 +4,16 @@
 -- all desks are at their end. proofs/AtTheEnd.antt proves it.
 -- Assumes nothing.
 use mathlib.Core.Path.{_≡_}
-use mathlib.Core.Logic.{_⊎_}
+use mathlib.Core.Logic.{_≢_, _⊎_}
 use mathlib.Core.Bool.{true, false}
 use mathlib.Core.List.{List}
 use Prim.Native.Nat.{ℕ, _<_}
 use lib.ListN.{length}
 use Rattle.answer.specs.Answer.{refused}
+use Rattle.content.specs.declared.Content.{Content}
 use Rattle.sound.specs.Head.{ownTurn}
 use Rattle.desk.specs.Calls.{lastTurn}
-use Rattle.runs.specs.Calls.{Call, document01, sends, delivers, takes}
+use Rattle.runs.specs.Calls.{Call, document01, writes, reads, sends, delivers, takes}
 use Rattle.runs.specs.Run.{Shelf, State, start, made, after, Possible, Run}
 use Rattle.runs.specs.TurnRules.{now, turnOf, CanSend, CanTake}
 use Rattle.runs.specs.InOrder.{InOrder}
@@ -26,6 +27,9 @@ pub record AtItsEnd (n : ℕ) (s : State) (p : ℕ) : Type 0 where
   pub other-take : ownTurn (s .desk p .head) ≡ false → made document01 s (takes p) .answer ≡ refused 10
   -- every sheet sent is its own, or was taken: 15 or 16
   pub delivery : (k : ℕ) → k < length (s .line) → (made document01 s (delivers p k) .answer ≡ refused 15) ⊎ (made document01 s (delivers p k) .answer ≡ refused 16)
+  -- writes and reads do not get 10
+  pub write : (cell : ℕ) (c : Content) → made document01 s (writes p cell c) .answer ≢ refused 10
+  pub read : (cell : ℕ) → made document01 s (reads p cell) .answer ≢ refused 10
   -- and its turn number stays, whichever call is next
   pub stays : (c : Call) → Possible n s c → turnOf (after document01 s c) p ≡ lastTurn
 
@@ -38,11 +42,15 @@ OthersGoOn =
     (shelf : Shelf) (s : State) → InOrder shelf s → (q : ℕ) → q < shelf .n → turnOf s q < lastTurn
     → (p : ℕ) × (p < shelf .n) × (CanSend document01 s p ⊎ CanTake document01 s p)
 
--- the end comes: one desk alone that sends again and again gets there
-abbrev pub oneDesk : Shelf
-oneDesk = record { n = 1; m = 1; mode = λ p. 2 }
+-- the end comes: two desks that send and take in turn get there. 4,294,967,295 is odd, so the turn is then at desk 1: its send gets 10, and so does desk 0's
+-- take
+abbrev pub twoDesks : Shelf
+twoDesks = record { n = 2; m = 1; mode = λ p. 2 }
 
 pub record TheEndComes : Type 0 where
   pub calls : List Call
-  pub run : Run document01 1 (start oneDesk) calls
-  pub turn : turnOf (now document01 oneDesk calls) 0 ≡ lastTurn
+  pub run : Run document01 2 (start twoDesks) calls
+  pub desk-0 : turnOf (now document01 twoDesks calls) 0 ≡ lastTurn
+  pub desk-1 : turnOf (now document01 twoDesks calls) 1 ≡ lastTurn
+  pub send-10 : (buffer : List ℕ) → made document01 (now document01 twoDesks calls) (sends 1 buffer) .answer ≡ refused 10
+  pub take-10 : made document01 (now document01 twoDesks calls) (takes 0) .answer ≡ refused 10

@@ -1,0 +1,187 @@
+-- The end of the turn numbers comes (specs/AtTheEnd.antt): two desks that send and take in turn get there, one turn number after the other.
+--   the-end-comes : TheEndComes
+-- Assumes nothing.
+use Prim.Native.Nat.{ℕ, zero, suc, _+_, _%_, _≤_, _<_}
+use mathlib.Core.Path.{_≡_, refl, ap, _∙_, sym}
+use mathlib.Core.Logic.{_≢_}
+use mathlib.Core.List.{List, [], _∷_, _++_}
+use native.Mathlib.Omega.{arith}
+use native.Mathlib.Nat.{mod-lt}
+use native.Mathlib.Numerals.{add-one}
+use lib.ListN.{replicate, length-replicate}
+use borrow.Author.Tests.{eq-eqb, ne-eqb}
+use Rattle.answer.specs.Answer.{answered}
+use Rattle.desk.specs.declared.Desk.{Desk}
+use Rattle.desk.specs.Answers.{sent}
+use Rattle.desk.specs.Calls.{lastTurn, openOf, sendOf, deliverOf, takeOf}
+use Rattle.keeping.proofs.Keeping.{numbers-stay}
+use Rattle.runs.specs.Calls.{Call, document01, sends, delivers, takes}
+use Rattle.runs.specs.Run.{State, sheetNo, start, after, Run}
+use Rattle.runs.specs.Run as runs
+use Rattle.runs.specs.TurnRules.{now, turnOf, CanTake}
+use Rattle.runs.specs.InOrder.{InOrder}
+use Rattle.runs.specs.AtTheEnd.{twoDesks, TheEndComes}
+use Rattle.runs.proofs.InOrder.{stays-in-order}
+use Rattle.runs.proofs.Laws.Lists.{later-append, run-append}
+use Rattle.runs.proofs.Laws.Steps.{put-same, put-other}
+use Rattle.runs.proofs.Laws.Order.{own-last, turn-desk}
+use Rattle.runs.proofs.Laws.Tested.{sized}
+use Rattle.runs.proofs.Laws.Going.{can-send, can-take}
+use native.Mathlib.Decide.{ℕ-discrete}
+use Rattle.sound.specs.Head.{turnDesk}
+use Rattle.runs.proofs.AtTheEnd.{nothing-breaks}
+
+-- the calls so far bring both desks to a turn number
+record Brings (turn : ℕ) : Type 0 where
+  calls : List Call
+  run : Run document01 2 (start twoDesks) calls
+  desk-0 : turnOf (now document01 twoDesks calls) 0 ≡ turn
+  desk-1 : turnOf (now document01 twoDesks calls) 1 ≡ turn
+
+-- a desk's turn number after a call of its own, and after a call of another desk
+module _ (s : State) (r x : ℕ) (apart : x ≢ r) where
+  abbrev turn-in : Desk → ℕ
+  turn-in d = d .head .turn
+
+  sends-own : (b : List ℕ) → turnOf (after document01 s (sends r b)) r ≡ sendOf (s .desk r) b .desk .head .turn
+  unfolding after
+  sends-own b = ap turn-in (put-same (s .desk) r (sendOf (s .desk r) b .desk))
+
+  sends-other : (b : List ℕ) → turnOf (after document01 s (sends r b)) x ≡ turnOf s x
+  unfolding after
+  sends-other b = ap turn-in (put-other (s .desk) r (sendOf (s .desk r) b .desk) x apart)
+
+  delivers-own : (k : ℕ) → turnOf (after document01 s (delivers r k)) r ≡ turnOf s r
+  unfolding after
+  delivers-own k =
+      let sheet = sheetNo s k .bytes in
+      ap turn-in (put-same (s .desk) r (deliverOf (s .desk r) (s .tray r) sheet .desk)) ∙ numbers-stay .deliver-turn (s .desk r) (s .tray r) sheet
+
+  delivers-other : (k : ℕ) → turnOf (after document01 s (delivers r k)) x ≡ turnOf s x
+  unfolding after
+  delivers-other k = ap turn-in (put-other (s .desk) r (deliverOf (s .desk r) (s .tray r) (sheetNo s k .bytes) .desk) x apart)
+
+  takes-own : turnOf (after document01 s (takes r)) r ≡ takeOf (s .desk r) (s .tray r) .desk .head .turn
+  unfolding after
+  takes-own = ap turn-in (put-same (s .desk) r (takeOf (s .desk r) (s .tray r) .desk))
+
+  takes-other : turnOf (after document01 s (takes r)) x ≡ turnOf s x
+  unfolding after
+  takes-other = ap turn-in (put-other (s .desk) r (takeOf (s .desk r) (s .tray r) .desk) x apart)
+
+-- desk p, whose turn it is, sends, and desk q takes that sheet
+module _ (turn : ℕ) (low : turn < lastTurn) (s : State) (o : InOrder twoDesks s) (p q : ℕ) (here : p < 2) (there : q < 2) (apart : q ≢ p)
+    (has : turn % 2 ≡ p) (at-p : turnOf s p ≡ turn) (at-q : turnOf s q ≡ turn) where
+  lent : List ℕ
+  lent = replicate 396 0
+
+  s₁ : State
+  s₁ = after document01 s (sends p lent)
+
+  o₁ : InOrder twoDesks s₁
+  unfolding s₁
+  o₁ = stays-in-order .call twoDesks s (sends p lent) o here
+
+  can : (entries : ℕ) × (sendOf (s .desk p) lent .answer ≡ answered (sent (turnOf s p) entries))
+  unfolding lent
+  can =
+      let own = ap (λ (k : ℕ). k % 2) at-p ∙ has in
+      let far = own-last (o .desks p here) own in
+      can-send o p here (ap (λ (k : ℕ). k % 2) (sym far) ∙ own) (omega (arith, at-p)) far lent (omega (arith, length-replicate {A = ℕ} 396 0))
+
+  p₁ : turnOf s₁ p ≡ turn + 1
+  unfolding s₁
+  p₁ = sends-own s p q apart lent ∙ numbers-stay .send-turn (s .desk p) lent .carried-out (sent (turnOf s p) (can .0)) (can .1) ∙ ap (λ (k : ℕ). k + 1) at-p
+
+  q₁ : turnOf s₁ q ≡ turn
+  unfolding s₁
+  q₁ = sends-other s p q apart lent ∙ at-q
+
+  took : CanTake document01 s₁ q
+  took =
+      can-take o₁ q there (omega (arith, p₁, q₁, o₁ .desks p here .no-further)) (λ own. apart (sym own ∙ ap (λ (k : ℕ). k % 2) q₁ ∙ has)) (omega (arith, q₁))
+
+  s₂ : State
+  s₂ = after document01 s₁ (delivers q (took .k))
+
+  round : List Call
+  round = sends p lent ∷ delivers q (took .k) ∷ takes q ∷ []
+
+  round-run : Run document01 2 s round
+  unfolding round s₁ Run
+  round-run = (here, ((there, took .sent), (there, tt)))
+
+  q₃ : turnOf (runs.later document01 s round) q ≡ turn + 1
+  unfolding round s₁ s₂ runs.later
+  q₃ =
+      takes-own s₂ q p (λ e. apart (sym e))
+      ∙ numbers-stay .take-turn (s₂ .desk q) (s₂ .tray q) .carried-out _ (took .accepted)
+      ∙ ap (λ (k : ℕ). k + 1) (delivers-own s₁ q p (λ e. apart (sym e)) (took .k) ∙ q₁)
+
+  p₃ : turnOf (runs.later document01 s round) p ≡ turn + 1
+  unfolding round s₁ s₂ runs.later
+  p₃ = takes-other s₂ q p (λ e. apart (sym e)) ∙ delivers-other s₁ q p (λ e. apart (sym e)) (took .k) ∙ p₁
+
+one-more : (turn : ℕ) → turn < lastTurn → Brings turn → Brings (turn + 1)
+one-more turn low b = by-turn (ℕ-discrete (turn % 2) 0)
+  where
+    s : State
+    s = now document01 twoDesks (b .calls)
+
+    o : InOrder twoDesks s
+    o = stays-in-order .run twoDesks (start twoDesks) (b .calls) (stays-in-order .fresh twoDesks (sized 2 1 2 refl)) (b .run)
+
+    on : (cs : List Call) → Run document01 2 s cs → turnOf (runs.later document01 s cs) 0 ≡ turn + 1 → turnOf (runs.later document01 s cs) 1 ≡ turn + 1 → Brings (turn + 1)
+    on cs r zero-is one-is =
+        let both = later-append document01 (start twoDesks) (b .calls) cs in
+        record {
+          calls = b .calls ++ cs;
+          run = run-append document01 2 (start twoDesks) (b .calls) cs (b .run) r;
+          desk-0 = ap (λ (t : State). turnOf t 0) both ∙ zero-is;
+          desk-1 = ap (λ (t : State). turnOf t 1) both ∙ one-is;
+        }
+
+    by-turn : Dec (turn % 2 ≡ 0) → Brings (turn + 1)
+    by-turn (yes e) =
+        let apart : _≢_ {A = ℕ} 1 0 = λ z. omega (arith, z) in
+        on (round turn low s o 0 1 (omega arith) (omega arith) apart e (b .desk-0) (b .desk-1))
+        (round-run turn low s o 0 1 (omega arith) (omega arith) apart e (b .desk-0) (b .desk-1))
+        (p₃ turn low s o 0 1 (omega arith) (omega arith) apart e (b .desk-0) (b .desk-1))
+        (q₃ turn low s o 0 1 (omega arith) (omega arith) apart e (b .desk-0) (b .desk-1))
+    by-turn (no e) =
+        let apart : _≢_ {A = ℕ} 0 1 = λ z. omega (arith, z) in
+        let h : turn % 2 < 2 = mod-lt turn (omega arith) in
+        let odd : turn % 2 ≡ 1 = omega arith in
+        on (round turn low s o 1 0 (omega arith) (omega arith) apart odd (b .desk-1) (b .desk-0))
+        (round-run turn low s o 1 0 (omega arith) (omega arith) apart odd (b .desk-1) (b .desk-0))
+        (q₃ turn low s o 1 0 (omega arith) (omega arith) apart odd (b .desk-1) (b .desk-0))
+        (p₃ turn low s o 1 0 (omega arith) (omega arith) apart odd (b .desk-1) (b .desk-0))
+
+none-yet : Brings 0
+unfolding Run runs.later start openOf
+none-yet = record { calls = []; run = tt; desk-0 = refl; desk-1 = refl }
+
+brings : (turn : ℕ) → turn ≤ lastTurn → Brings turn
+brings zero h = none-yet
+brings (suc turn) h = rw (← (add-one turn)) (one-more turn (omega arith) (brings turn (omega arith)))
+
+-- both desks are there
+ended : Brings lastTurn → TheEndComes
+ended b =
+    let s = now document01 twoDesks (b .calls) in
+    let o = stays-in-order .run twoDesks (start twoDesks) (b .calls) (stays-in-order .fresh twoDesks (sized 2 1 2 refl)) (b .run) in
+    let none = o .desks 0 (omega arith) in
+    let one = o .desks 1 (omega arith) in
+    let turn-0 : turnDesk (s .desk 0 .head) ≡ 1 = turn-desk none ∙ ap (λ (k : ℕ). k % 2) (b .desk-0) in
+    let turn-1 : turnDesk (s .desk 1 .head) ≡ 1 = turn-desk one ∙ ap (λ (k : ℕ). k % 2) (b .desk-1) in
+    record {
+      calls = b .calls;
+      run = b .run;
+      desk-0 = b .desk-0;
+      desk-1 = b .desk-1;
+      send-10 = nothing-breaks twoDesks s o 1 (omega arith) (b .desk-1) .own-send (eq-eqb (turnDesk (s .desk 1 .head)) (s .desk 1 .head .own) (turn-1 ∙ sym (one .own)));
+      take-10 = nothing-breaks twoDesks s o 0 (omega arith) (b .desk-0) .other-take (ne-eqb (turnDesk (s .desk 0 .head)) (s .desk 0 .head .own) (λ e. omega (arith, e, turn-0, none .own)));
+    }
+
+pub the-end-comes : TheEndComes
+the-end-comes = ended (brings lastTurn (omega arith))
