@@ -17,7 +17,7 @@ use Rattle.desk.specs.Calls.{lastTurn}
 use Rattle.runs.specs.Calls.{Call, document01, reads, delivers, takes}
 use Rattle.runs.specs.Run.{Shelf, Within, State, sheetNo, start, Run}
 use Rattle.runs.specs.TurnRules.{now, turnOf, HasTurn, CanSend, CanTake, answers-it}
-use Rattle.runs.specs.Played.{twoDesks, threeDesks, lent, listingCalls, listingAnswers, ListingIsARun, HoldsUntaken, oneSheet, twoSheets, TwoHold, beforeTheRead, whileItWaits, untilAnswered, waitAnswers, sinceTheRead, LongestWait, sheetOnTheLine, NobodySends, threeSheets, threeSheetsAnswers, Furthest, RunsPlayed}
+use Rattle.runs.specs.Played.{twoDesks, threeDesks, lent, listingCalls, listingAnswers, ListingIsARun, HoldsUntaken, oneSheet, twoSheets, TwoHold, beforeTheRead, whileItWaits, untilAnswered, waitAnswers, sinceTheRead, LongestWait, sheetOnTheLine, NobodySends, threeSheets, threeSheetsAnswers, Furthest, fullShelf, written, FullSheet, RunsPlayed}
 use Rattle.runs.proofs.InOrder.{stays-in-order}
 use Rattle.runs.proofs.Laws.Going.{can-take}
 use Rattle.runs.proofs.Laws.Tested.{computing, below-two, below-three, sized, is-possible, is-run, answered-last, someSeen, seesTake, no-take, no-answer}
@@ -129,6 +129,17 @@ furthest =
       is-held = refl;
     }
 
+full-sheet : FullSheet
+unfolding computing written
+full-sheet =
+    record {
+      within = sized 1 64 2 refl;
+      run = is-run document01 1 (start fullShelf) (written 64) refl;
+      has-turn = refl;
+      too-few = refl;
+      enough = refl;
+    }
+
 pub runs-played : RunsPlayed
 runs-played =
     record {
@@ -137,4 +148,5 @@ runs-played =
       longest-wait = longest-wait;
       nobody-sends = nobody-sends;
       furthest = furthest;
+      full-sheet = full-sheet;
     }

@@ -15,8 +15,8 @@ pub record Calls : Type 0 where
   pub deliver : Desk → List ℕ → List ℕ → Done
   pub take : Desk → List ℕ → Done
 
--- document 01's: the definitions that the code's contracts cite (crates/desk/specs/Calls.antt). What is demanded is demanded of these; that
--- it is not so of others is how specs/Wrong.antt shows that it says something
+-- document 01's: the definitions that the code's contracts cite (crates/desk/specs/Calls.antt). What is demanded is demanded of these;
+-- specs/Wrong.antt has calls of which it is not so
 abbrev pub document01 : Calls
 document01 =
     record {

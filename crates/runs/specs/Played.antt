@@ -4,7 +4,7 @@
 use mathlib.Core.Path.{_≡_}
 use mathlib.Core.List.{List, [], _∷_, _++_}
 use mathlib.Core.Option.{none, some}
-use Prim.Native.Nat.{ℕ, _+_, _-_, _<_}
+use Prim.Native.Nat.{ℕ, zero, suc, _+_, _-_, _<_}
 use lib.IntN.{pos}
 use lib.ListN.{replicate}
 use Rattle.answer.specs.Answer.{Answer, refused, answered}
@@ -180,9 +180,8 @@ pub record NobodySends : Type 0 where
 
 -- ---- "refusal 17 never comes": how near to it a delivery gets
 
--- 01's table, 17: "sheet's number at or above turn number + n". The numbers from a desk's turn number on, n of them, have one at which the
--- turn is its own; it has not sent that sheet, so none with this number or a greater one is sent. So turn number + n - 2 is the
--- greatest that can be delivered, and here it is: desk 0 sends sheet 0, desk 1 sheet 1 and desk 2 sheet 2, before desk 0 takes any
+-- 01's table, 17: "sheet's number at or above turn number + n". The greatest that can be delivered is turn number + n - 2 (specs/InOrder.antt,
+-- `NotFarAhead`), and here it is: desk 0 sends sheet 0, desk 1 sheet 1 and desk 2 sheet 2, before desk 0 takes any
 unfoldable pub threeSheets : List Call
 threeSheets =
     sends 0 lent
@@ -216,6 +215,23 @@ pub record Furthest : Type 0 where
   pub possible : Possible 3 (now document01 threeDesks threeSheets) (delivers 0 2)
   pub is-held : made document01 (now document01 threeDesks threeSheets) (delivers 0 2) .answer ≡ answered held
 
+-- ---- "into 396 bytes": fewer may be too few
+
+-- one desk alone, 64 cells, and every one of the first n of them written
+abbrev pub fullShelf : Shelf
+fullShelf = record { n = 1; m = 64; mode = λ p. 2 }
+
+unfoldable pub written : ℕ → List Call
+written zero = []
+written (suc n) = written n ++ writes 0 n Open ∷ []
+
+pub record FullSheet : Type 0 where
+  pub within : Within fullShelf
+  pub run : Run document01 1 (start fullShelf) (written 64)
+  pub has-turn : HasTurn (now document01 fullShelf (written 64)) 0
+  pub too-few : made document01 (now document01 fullShelf (written 64)) (sends 0 (replicate 395 0)) .answer ≡ refused 11
+  pub enough : made document01 (now document01 fullShelf (written 64)) (sends 0 (replicate 396 0)) .answer ≡ answered (sent 0 64)
+
 -- ---- all of them
 
 pub record RunsPlayed : Type 0 where
@@ -224,3 +240,4 @@ pub record RunsPlayed : Type 0 where
   pub longest-wait : LongestWait
   pub nobody-sends : NobodySends
   pub furthest : Furthest
+  pub full-sheet : FullSheet

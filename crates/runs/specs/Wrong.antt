@@ -53,7 +53,7 @@ sentTwice = sends 0 lent ∷ sends 0 lent ∷ []
 -- ---- 3, "refusal 17 never comes"
 
 -- a delivery that is refused with 17 from turn number + n - 2 on. That is two numbers before 01's: where it is one, no sheet of a run would be
--- refused either (specs/Played.antt, `Furthest`)
+-- refused either (specs/InOrder.antt, `NotFarAhead`)
 unfoldable pub deliverRefusingEarly : Desk → List ℕ → List ℕ → Done
 deliverRefusingEarly d tray s =
     cond (leb (d .head .turn + d .head .n) (trailerIn s .turn + 2)) (record { answer = refused 17; desk = d; lent = tray })
@@ -71,7 +71,7 @@ takeLeavingSheet d tray = let done = takeOf d tray in record { answer = done .an
 abbrev pub takeLeavesSheet : Calls
 takeLeavesSheet = callsWith sendOf deliverOf takeLeavingSheet
 
--- the turn has gone round once and desk 0 has sent again: desk 1 waits for this sheet, and its place is not free
+-- the turn has gone round once and desk 0 has sent again: this is desk 1's next sheet, and there is no free place for it
 unfoldable pub roundAndOn : List Call
 roundAndOn = sends 0 lent ∷ delivers 1 0 ∷ takes 1 ∷ sends 1 lent ∷ delivers 0 1 ∷ takes 0 ∷ sends 0 lent ∷ []
 
