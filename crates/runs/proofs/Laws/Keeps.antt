@@ -40,7 +40,7 @@ use Rattle.runs.specs.Calls.{Call}
 use Rattle.runs.specs.Run.{Shelf, Sheet, sheetOn, State, put, Possible}
 use Rattle.runs.specs.InOrder.{SheetInOrder, PlaceInOrder, is-free, holds-sheet, DeskInOrder, InOrder}
 use Rattle.runs.proofs.Laws.Line.{more-long, more-same, more-last}
-use Rattle.runs.proofs.Laws.Order.{desk-sound, some-desks, own-last, turn-desk, turn-below, next-held}
+use Rattle.runs.proofs.Laws.Order.{desk-sound, some-desks, own-last, turn-desk, turn-below, next-held, none-left}
 use Rattle.runs.proofs.Laws.Steps.{put-same, put-other, put-own, withDesk, sheetBy, Step, is-refused, is-stored, is-read, is-waiting, is-sent, is-held, is-taken}
 
 -- ---- replaced records
@@ -267,13 +267,8 @@ module _ {shelf : Shelf} {line : List Sheet} {p : ℕ} {d : Desk} {tray : List �
         past-own = λ k l e. omega (arith, number-is, long);
         tray-long = o .tray-long;
         tray-bytes = o .tray-bytes;
-        places = λ q l. by-place q (o .places q l);
+        places = λ q l. is-free (none-left o number-is q l);
       }
-    where
-      -- no sheet of the line is left to take
-      by-place : (q : ℕ) → PlaceInOrder (shelf .n) line (d .head .turn) tray q → PlaceInOrder (shelf .n) (line ++ (y ∷ [])) (d .head .turn + 1) tray q
-      by-place q (is-free f) = is-free f
-      by-place q (holds-sheet k sent due from g e) = absurd (omega (arith, number-is))
 
 -- ---- every step
 

@@ -1,6 +1,7 @@
 -- Laws of lists of calls, for whatever calls a desk has.
---   later-append          calls after calls: what there is after both
---   run-append            and they are a run where the first are one, and the others from there on
+--   later-append, answers-append, takesBy-append      calls after calls: what there is after both, what they answer, how many takes of a desk
+--   run-append, run-split                             they are a run exactly if the first are one, and the others are one from there on
+--   along                                             what is so of no calls, and of one call more, is so of every run
 -- Assumes nothing.
 use mathlib.Core.Path.{_≡_, refl, ap}
 use mathlib.Core.List.{List, [], _∷_, _++_}

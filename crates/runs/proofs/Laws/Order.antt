@@ -3,6 +3,7 @@
 --   own-last                                           a desk whose turn it is has got as far as the line
 --   near                                               all sheets sent are below a desk's turn number + n: its next sheet of its own is not sent
 --   NextHeld, next-held                                what the place of the desk whose turn it is holds is the desk's next sheet
+--   none-left                                          a desk that has got as far as the line has all places free
 -- Assumes nothing.
 use Prim.Native.Nat.{ℕ, _+_, _%_, _<_}
 use mathlib.Core.Path.{_≡_, sym, ap, _∙_}
@@ -73,3 +74,11 @@ module _ {shelf : Shelf} {line : List Sheet} {p : ℕ} {d : Desk} {tray : List �
       by-place (holds-sheet k sent due from g e) =
           let same : d .head .turn ≡ k = window (shelf .n) (d .head .turn) k due (omega (arith, near o)) (sym (turn-desk o) ∙ sym from) in
           record { sent = omega arith; holds-good = g; is = e ∙ ap (λ (j : ℕ). sheetOn line j .bytes) (sym same) }
+
+  -- where no sheet is left to take, all places are free
+  pub none-left : d .head .turn ≡ length line → (q : ℕ) → q < shelf .n → free tray q ≡ true
+  none-left far q l = by-place (o .places q l)
+    where
+      by-place : PlaceInOrder (shelf .n) line (d .head .turn) tray q → free tray q ≡ true
+      by-place (is-free f) = f
+      by-place (holds-sheet k sent due from g e) = absurd (omega (arith, far))

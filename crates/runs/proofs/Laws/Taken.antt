@@ -1,5 +1,6 @@
 -- What a desk has gone past it has taken: every sheet of another desk below its turn number was taken by one of the calls.
---   line-kept             sheets stay on the line, where they are
+--   longer, line-kept     sheets stay on the line, where they are: after a call, and after a list of calls
+--   Moves, moves          what a call does to a desk's turn number
 --   never-back            no call takes a turn number back
 --   gone-past             the calls that brought a desk's turn number from below k to above it have a take of sheet k, or k is the desk's own
 -- Assumes nothing.
@@ -36,7 +37,7 @@ pub record Longer (before now : List Sheet) : Type 0 where
 as-long : {line : List Sheet} → Longer line line
 as-long = record { long = omega arith; same = λ k l. refl }
 
-longer : {s : State} {c : Call} {a : Answer Value} {t : State} → Step s c a t → Longer (s .line) (t .line)
+pub longer : {s : State} {c : Call} {a : Answer Value} {t : State} → Step s c a t → Longer (s .line) (t .line)
 longer (is-refused c k f) = as-long
 longer (is-stored p cell c silent) = as-long
 longer (is-read p cell silent w) = as-long
@@ -58,7 +59,7 @@ line-kept s (c ∷ cs) =
 -- ---- the turn number
 
 -- a call leaves a desk's turn number, or it is a send of that desk's, or a take that takes the sheet of that number
-data Moves (n : ℕ) (s : State) (p : ℕ) : Call → State → Type 0 where
+pub data Moves (n : ℕ) (s : State) (p : ℕ) : Call → State → Type 0 where
   stays : {c : Call} {t : State} → turnOf t p ≡ turnOf s p → Moves n s p c t
   by-send : {c : Call} {t : State} → turnOf s p % n ≡ p → turnOf t p ≡ turnOf s p + 1 → Moves n s p c t
   by-take : {t : State} → TakesSheet document01 p (turnOf s p) s (takes p)
@@ -79,7 +80,7 @@ module _ {shelf : Shelf} {s : State} (o : InOrder shelf s) (p : ℕ) (here : p <
       by-desk (yes z) = rw z (ap turn-in (put-same (s .desk) q d) ∙ e)
       by-desk (no z) = other-turn q d z
 
-  moves : {c : Call} {a : Answer Value} {t : State} → made document01 s c .answer ≡ a → Step s c a t → Moves (shelf .n) s p c t
+  pub moves : {c : Call} {a : Answer Value} {t : State} → made document01 s c .answer ≡ a → Step s c a t → Moves (shelf .n) s p c t
   moves e (is-refused c k f) = stays refl
   moves e (is-stored q cell c silent) = stays (same-turn q (writtenDesk (s .desk q) cell c) refl)
   moves e (is-read q cell silent w) = stays refl

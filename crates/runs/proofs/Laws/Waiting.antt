@@ -1,4 +1,5 @@
 -- A read that waits: nothing but an accepted take of its desk moves the desk's turn number, and the take that brings the desk's own turn answers it.
+--   Passes, passes        what a call does to a desk at which a read waits
 --   wait-ended            once the desk has had as many accepted takes as there are numbers before its next own one, one of them answers
 -- Assumes nothing.
 use Prim.Native.Nat.{ℕ, _+_, _%_, _≤_, _<_}
@@ -31,7 +32,7 @@ use Rattle.runs.proofs.Laws.Order.{desk-sound}
 use Rattle.runs.proofs.Laws.Keeps.{step-in-order}
 
 -- what a call does to a desk at which a read waits: nothing, or it is an accepted take of that desk
-data Passes (s : State) (p : ℕ) : Call → Answer Value → State → Type 0 where
+pub data Passes (s : State) (p : ℕ) : Call → Answer Value → State → Type 0 where
   as-it-was : {c : Call} {a : Answer Value} {t : State} → takeOfDesk p c && accepted a ≡ false → t .desk p ≡ s .desk p → Passes s p c a t
   by-take : {t : State} → t .desk p ≡ takenDesk (s .desk p) (entriesTaken (s .desk p) (s .tray p))
       → Passes s p (takes p) (answered (takenBy (s .desk p) (s .tray p))) t
@@ -40,7 +41,7 @@ module _ {shelf : Shelf} {s : State} (o : InOrder shelf s) (p : ℕ) (here : p <
   still : readWaits (s .desk p .head) ≡ true
   still = rw (ne-eqb (s .desk p .head .wait) 0 w)
 
-  passes : {c : Call} {a : Answer Value} {t : State} → Step s c a t → Passes s p c a t
+  pub passes : {c : Call} {a : Answer Value} {t : State} → Step s c a t → Passes s p c a t
   passes (is-refused c k f) = as-it-was (and-false (takeOfDesk p c)) refl
   passes (is-stored q cell c silent) = as-it-was refl (put-other (s .desk) q (writtenDesk (s .desk q) cell c) p apart)
     where
