@@ -1,6 +1,7 @@
 -- A fresh shelf is in order, every call keeps it so, and so it is after every run: specs/InOrder.antt.
 --   stays-in-order : RunsStayInOrder
 --   not-far-ahead : NotFarAhead
+--   records-are-sound : RecordsAreSound
 --   never-comes : NeverComes
 -- Assumes nothing.
 use Prim.Native.Nat.{ℕ, zero, suc, _+_, _*_, _<_}
@@ -23,7 +24,7 @@ use Rattle.desk.proofs.Laws.Allowed.{open-if}
 use Rattle.keeping.proofs.Keeping.{open-is-sound}
 use Rattle.runs.specs.Calls.{Call, document01}
 use Rattle.runs.specs.Run.{Shelf, Within, State, start, after, Possible, Run, later}
-use Rattle.runs.specs.InOrder.{is-free, DeskInOrder, InOrder, RunsStayInOrder, NotFarAhead, Never, NeverComes}
+use Rattle.runs.specs.InOrder.{is-free, DeskInOrder, InOrder, RunsStayInOrder, NotFarAhead, RecordsAreSound, Never, NeverComes}
 use Rattle.runs.proofs.Laws.Steps.{step}
 use Rattle.runs.proofs.Laws.Order.{near}
 use Rattle.runs.proofs.Laws.Keeps.{step-in-order}
@@ -96,6 +97,9 @@ stays-in-order = record { opens = opens; fresh = fresh; call = call-in-order; ru
 
 pub not-far-ahead : NotFarAhead
 not-far-ahead shelf s o p here k sent = omega (arith, near (o .desks p here))
+
+pub records-are-sound : RecordsAreSound
+records-are-sound shelf w cs r p here = run-in-order shelf (start shelf) cs (fresh shelf w) r .desks p here .is-sound
 
 -- ---- the refusals that never come
 

@@ -1,7 +1,7 @@
 -- The end of the turn numbers. 00, demand 3: "While no desk's turn number has reached its end". 01's table has 4,294,967,295 as the greatest, and
--- 10 is "turn number is 4,294,967,295". A desk whose turn number is that sends and takes no more, and nothing breaks: `InOrder`, sound records
--- among it, is kept by every call, four of the turn rules hold as before, and of the fifth, that some desk can go on, what is left holds: until
--- all desks are at their end. proofs/AtTheEnd.antt proves it.
+-- 10 is "turn number is 4,294,967,295". A desk whose turn number is that sends and takes no more, and nothing breaks: every call keeps records sound
+-- (specs/InOrder.antt), parts 1, 2, 3 and 5 of the demand hold as before, having no premise on turn numbers (specs/TurnRules.antt), and what is
+-- left of part 4 is that some desk can go on until all are at their end. proofs/AtTheEnd.antt and proofs/TheEndComes.antt prove what stands here.
 -- Assumes nothing.
 use mathlib.Core.Path.{_≡_}
 use mathlib.Core.Logic.{_≢_, _⊎_}

@@ -72,6 +72,12 @@ abbrev pub NotFarAhead : Type 0
 NotFarAhead =
     (shelf : Shelf) (s : State) → InOrder shelf s → (p : ℕ) → p < shelf .n → (k : ℕ) → k < length (s .line) → k + 2 ≤ s .desk p .head .turn + shelf .n
 
+-- so in every run each desk's record is sound, whatever calls were made
+abbrev pub RecordsAreSound : Type 0
+RecordsAreSound =
+    (shelf : Shelf) → Within shelf → (cs : List Call) → Run document01 (shelf .n) (start shelf) cs
+    → (p : ℕ) → p < shelf .n → sound (later document01 (start shelf) cs .desk p) ≡ true
+
 -- a refusal that never comes in a run, whichever call is next
 abbrev pub Never : ℕ → Type 0
 Never k =
