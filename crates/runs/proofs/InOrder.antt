@@ -7,7 +7,7 @@
 use Prim.Native.Nat.{ℕ, zero, suc, _+_, _*_, _<_}
 use mathlib.Core.Path.{_≡_, refl, ap}
 use mathlib.Core.Bool.{true}
-use mathlib.Core.List.{List, [], _∷_}
+use mathlib.Core.List.{List, []}
 use native.Mathlib.Omega.{arith}
 use lib.ListN.{getD, replicate, length-replicate}
 use borrow.Author.Tests.{eq-eqb}
@@ -25,6 +25,7 @@ use Rattle.keeping.proofs.Keeping.{open-is-sound}
 use Rattle.runs.specs.Calls.{Call, document01}
 use Rattle.runs.specs.Run.{Shelf, Within, State, start, after, Possible, Run, later}
 use Rattle.runs.specs.InOrder.{is-free, DeskInOrder, InOrder, RunsStayInOrder, NotFarAhead, RecordsAreSound, Never, NeverComes}
+use Rattle.runs.proofs.Laws.Lists.{along}
 use Rattle.runs.proofs.Laws.Steps.{step}
 use Rattle.runs.proofs.Laws.Order.{near}
 use Rattle.runs.proofs.Laws.Keeps.{step-in-order}
@@ -88,9 +89,8 @@ call-in-order : (shelf : Shelf) (s : State) (c : Call) → InOrder shelf s → P
 call-in-order shelf s c o here = step-in-order o here (step s c)
 
 run-in-order : (shelf : Shelf) (s : State) (cs : List Call) → InOrder shelf s → Run document01 (shelf .n) s cs → InOrder shelf (later document01 s cs)
-unfolding Run later
-run-in-order shelf s [] o r = o
-run-in-order shelf s (c ∷ cs) o r = run-in-order shelf (after document01 s c) cs (call-in-order shelf s c o (r .0)) (r .1)
+run-in-order shelf s cs o =
+    along document01 (shelf .n) s (λ cs t. InOrder shelf t) o (λ cs c r before here. call-in-order shelf (later document01 s cs) c before here) cs
 
 pub stays-in-order : RunsStayInOrder
 stays-in-order = record { opens = opens; fresh = fresh; call = call-in-order; run = run-in-order }

@@ -1,4 +1,6 @@
--- The runs of specs/Played.antt, all by computing.
+-- The runs of specs/Played.antt, by computing; that a desk can take comes from `can-take`.
+--   runs-played : RunsPlayed
+--   two-within, three-within      the shelves are within limits
 -- Assumes nothing.
 use mathlib.Core.Path.{_≡_, refl, sym, _∙_}
 use mathlib.Core.Bool.{true, false, not, _&&_, false≢true}

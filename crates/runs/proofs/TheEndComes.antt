@@ -20,7 +20,7 @@ use Rattle.runs.specs.Run.{State, sheetNo, start, after, Run}
 use Rattle.runs.specs.Run as runs
 use Rattle.runs.specs.TurnRules.{now, turnOf, CanTake}
 use Rattle.runs.specs.InOrder.{InOrder}
-use Rattle.runs.specs.AtTheEnd.{twoDesks, TheEndComes}
+use Rattle.runs.specs.AtTheEnd.{oneCell, TheEndComes}
 use Rattle.runs.proofs.InOrder.{stays-in-order}
 use Rattle.runs.proofs.Laws.Lists.{later-append, run-append}
 use Rattle.runs.proofs.Laws.Steps.{put-same, put-other}
@@ -34,9 +34,9 @@ use Rattle.runs.proofs.AtTheEnd.{nothing-breaks}
 -- the calls so far bring both desks to a turn number
 record Brings (turn : ℕ) : Type 0 where
   calls : List Call
-  run : Run document01 2 (start twoDesks) calls
-  desk-0 : turnOf (now document01 twoDesks calls) 0 ≡ turn
-  desk-1 : turnOf (now document01 twoDesks calls) 1 ≡ turn
+  run : Run document01 2 (start oneCell) calls
+  desk-0 : turnOf (now document01 oneCell calls) 0 ≡ turn
+  desk-1 : turnOf (now document01 oneCell calls) 1 ≡ turn
 
 -- a desk's turn number after a call of its own, and after a call of another desk
 module _ (s : State) (r x : ℕ) (apart : x ≢ r) where
@@ -70,7 +70,7 @@ module _ (s : State) (r x : ℕ) (apart : x ≢ r) where
   takes-other = ap turn-in (put-other (s .desk) r (takeOf (s .desk r) (s .tray r) .desk) x apart)
 
 -- desk p, whose turn it is, sends, and desk q takes that sheet
-module _ (turn : ℕ) (low : turn < lastTurn) (s : State) (o : InOrder twoDesks s) (p q : ℕ) (here : p < 2) (there : q < 2) (apart : q ≢ p)
+module _ (turn : ℕ) (low : turn < lastTurn) (s : State) (o : InOrder oneCell s) (p q : ℕ) (here : p < 2) (there : q < 2) (apart : q ≢ p)
     (has : turn % 2 ≡ p) (at-p : turnOf s p ≡ turn) (at-q : turnOf s q ≡ turn) where
   lent : List ℕ
   lent = replicate 396 0
@@ -78,9 +78,9 @@ module _ (turn : ℕ) (low : turn < lastTurn) (s : State) (o : InOrder twoDesks 
   s₁ : State
   s₁ = after document01 s (sends p lent)
 
-  o₁ : InOrder twoDesks s₁
+  o₁ : InOrder oneCell s₁
   unfolding s₁
-  o₁ = stays-in-order .call twoDesks s (sends p lent) o here
+  o₁ = stays-in-order .call oneCell s (sends p lent) o here
 
   can : (entries : ℕ) × (sendOf (s .desk p) lent .answer ≡ answered (sent (turnOf s p) entries))
   unfolding lent
@@ -126,17 +126,17 @@ one-more : (turn : ℕ) → turn < lastTurn → Brings turn → Brings (turn + 1
 one-more turn low b = by-turn (ℕ-discrete (turn % 2) 0)
   where
     s : State
-    s = now document01 twoDesks (b .calls)
+    s = now document01 oneCell (b .calls)
 
-    o : InOrder twoDesks s
-    o = stays-in-order .run twoDesks (start twoDesks) (b .calls) (stays-in-order .fresh twoDesks (sized 2 1 2 refl)) (b .run)
+    o : InOrder oneCell s
+    o = stays-in-order .run oneCell (start oneCell) (b .calls) (stays-in-order .fresh oneCell (sized 2 1 2 refl)) (b .run)
 
     on : (cs : List Call) → Run document01 2 s cs → turnOf (runs.later document01 s cs) 0 ≡ turn + 1 → turnOf (runs.later document01 s cs) 1 ≡ turn + 1 → Brings (turn + 1)
     on cs r zero-is one-is =
-        let both = later-append document01 (start twoDesks) (b .calls) cs in
+        let both = later-append document01 (start oneCell) (b .calls) cs in
         record {
           calls = b .calls ++ cs;
-          run = run-append document01 2 (start twoDesks) (b .calls) cs (b .run) r;
+          run = run-append document01 2 (start oneCell) (b .calls) cs (b .run) r;
           desk-0 = ap (λ (t : State). turnOf t 0) both ∙ zero-is;
           desk-1 = ap (λ (t : State). turnOf t 1) both ∙ one-is;
         }
@@ -168,19 +168,20 @@ brings (suc turn) h = rw (← (add-one turn)) (one-more turn (omega arith) (brin
 -- both desks are there
 ended : Brings lastTurn → TheEndComes
 ended b =
-    let s = now document01 twoDesks (b .calls) in
-    let o = stays-in-order .run twoDesks (start twoDesks) (b .calls) (stays-in-order .fresh twoDesks (sized 2 1 2 refl)) (b .run) in
+    let s = now document01 oneCell (b .calls) in
+    let o = stays-in-order .run oneCell (start oneCell) (b .calls) (stays-in-order .fresh oneCell (sized 2 1 2 refl)) (b .run) in
     let none = o .desks 0 (omega arith) in
     let one = o .desks 1 (omega arith) in
     let turn-0 : turnDesk (s .desk 0 .head) ≡ 1 = turn-desk none ∙ ap (λ (k : ℕ). k % 2) (b .desk-0) in
     let turn-1 : turnDesk (s .desk 1 .head) ≡ 1 = turn-desk one ∙ ap (λ (k : ℕ). k % 2) (b .desk-1) in
     record {
+      within = sized 2 1 2 refl;
       calls = b .calls;
       run = b .run;
       desk-0 = b .desk-0;
       desk-1 = b .desk-1;
-      send-10 = nothing-breaks twoDesks s o 1 (omega arith) (b .desk-1) .own-send (eq-eqb (turnDesk (s .desk 1 .head)) (s .desk 1 .head .own) (turn-1 ∙ sym (one .own)));
-      take-10 = nothing-breaks twoDesks s o 0 (omega arith) (b .desk-0) .other-take (ne-eqb (turnDesk (s .desk 0 .head)) (s .desk 0 .head .own) (λ e. omega (arith, e, turn-0, none .own)));
+      send-10 = nothing-breaks oneCell s o 1 (omega arith) (b .desk-1) .own-send (eq-eqb (turnDesk (s .desk 1 .head)) (s .desk 1 .head .own) (turn-1 ∙ sym (one .own)));
+      take-10 = nothing-breaks oneCell s o 0 (omega arith) (b .desk-0) .other-take (ne-eqb (turnDesk (s .desk 0 .head)) (s .desk 0 .head .own) (λ e. omega (arith, e, turn-0, none .own)));
     }
 
 pub the-end-comes : TheEndComes

@@ -1,4 +1,5 @@
 -- The runs of specs/Wrong.antt by computing, and after each the part of the demand that is false.
+--   each-part-bites : EachPartBites
 -- Assumes nothing.
 use mathlib.Core.Path.{_≡_, refl, sym, _∙_}
 use mathlib.Core.Logic.{_⊎_, inl, inr}

@@ -1,7 +1,8 @@
 -- The end of the turn numbers. 00, demand 3: "While no desk's turn number has reached its end". 01's table has 4,294,967,295 as the greatest, and
 -- 10 is "turn number is 4,294,967,295". A desk whose turn number is that sends and takes no more, and nothing breaks: every call keeps records sound
 -- (specs/InOrder.antt), parts 1, 2, 3 and 5 of the demand hold as before, having no premise on turn numbers (specs/TurnRules.antt), and what is
--- left of part 4 is that some desk can go on until all are at their end. proofs/AtTheEnd.antt and proofs/TheEndComes.antt prove what stands here.
+-- left of part 4 is that some desk can go on until all are at their end. Part 5 counts accepted takes, and there are none any more: a read that
+-- waits at a desk at its end goes on waiting. proofs/AtTheEnd.antt and proofs/TheEndComes.antt prove what stands here.
 -- Assumes nothing.
 use mathlib.Core.Path.{_≡_}
 use mathlib.Core.Logic.{_≢_, _⊎_}
@@ -14,7 +15,7 @@ use Rattle.content.specs.declared.Content.{Content}
 use Rattle.sound.specs.Head.{ownTurn}
 use Rattle.desk.specs.Calls.{lastTurn}
 use Rattle.runs.specs.Calls.{Call, document01, writes, reads, sends, delivers, takes}
-use Rattle.runs.specs.Run.{Shelf, State, start, made, after, Possible, Run}
+use Rattle.runs.specs.Run.{Shelf, Within, State, start, made, after, Possible, Run}
 use Rattle.runs.specs.TurnRules.{now, turnOf, CanSend, CanTake}
 use Rattle.runs.specs.InOrder.{InOrder}
 
@@ -27,12 +28,13 @@ pub record AtItsEnd (n : ℕ) (s : State) (p : ℕ) : Type 0 where
   pub other-take : ownTurn (s .desk p .head) ≡ false → made document01 s (takes p) .answer ≡ refused 10
   -- every sheet sent is its own, or was taken: 15 or 16
   pub delivery : (k : ℕ) → k < length (s .line) → (made document01 s (delivers p k) .answer ≡ refused 15) ⊎ (made document01 s (delivers p k) .answer ≡ refused 16)
-  -- writes and reads do not get 10
+  -- writes and reads do not get 10; but a read that waits here is not answered any more, since no take is accepted
   pub write : (cell : ℕ) (c : Content) → made document01 s (writes p cell c) .answer ≢ refused 10
   pub read : (cell : ℕ) → made document01 s (reads p cell) .answer ≢ refused 10
   -- and its turn number stays, whichever call is next
   pub stays : (c : Call) → Possible n s c → turnOf (after document01 s c) p ≡ lastTurn
 
+-- it is so in every state in order, and so after every run (specs/InOrder.antt)
 abbrev pub NothingBreaks : Type 0
 NothingBreaks = (shelf : Shelf) (s : State) → InOrder shelf s → (p : ℕ) → p < shelf .n → turnOf s p ≡ lastTurn → AtItsEnd (shelf .n) s p
 
@@ -44,13 +46,14 @@ OthersGoOn =
 
 -- the end comes: two desks that send and take in turn get there. 4,294,967,295 is odd, so the turn is then at desk 1: its send gets 10, and so does desk 0's
 -- take
-abbrev pub twoDesks : Shelf
-twoDesks = record { n = 2; m = 1; mode = λ p. 2 }
+abbrev pub oneCell : Shelf
+oneCell = record { n = 2; m = 1; mode = λ p. 2 }
 
 pub record TheEndComes : Type 0 where
+  pub within : Within oneCell
   pub calls : List Call
-  pub run : Run document01 2 (start twoDesks) calls
-  pub desk-0 : turnOf (now document01 twoDesks calls) 0 ≡ lastTurn
-  pub desk-1 : turnOf (now document01 twoDesks calls) 1 ≡ lastTurn
-  pub send-10 : (buffer : List ℕ) → made document01 (now document01 twoDesks calls) (sends 1 buffer) .answer ≡ refused 10
-  pub take-10 : made document01 (now document01 twoDesks calls) (takes 0) .answer ≡ refused 10
+  pub run : Run document01 2 (start oneCell) calls
+  pub desk-0 : turnOf (now document01 oneCell calls) 0 ≡ lastTurn
+  pub desk-1 : turnOf (now document01 oneCell calls) 1 ≡ lastTurn
+  pub send-10 : (buffer : List ℕ) → made document01 (now document01 oneCell calls) (sends 1 buffer) .answer ≡ refused 10
+  pub take-10 : made document01 (now document01 oneCell calls) (takes 0) .answer ≡ refused 10

@@ -1,6 +1,7 @@
 -- What is so in a run from its start on, beside the turn rules and behind them: each desk's record is sound and has the numbers that it was opened
 -- with; the sheets sent have the turn numbers 0, 1, 2 and so on, each from the desk whose turn that is; no desk is further than the line, nor
--- behind a sheet of its own; and a place of a tray is free or holds a sheet of the line that is not yet taken. proofs/InOrder.antt proves it.
+-- behind a sheet of its own; and a place of a tray is free or holds a sheet of the line that is not yet taken. Then what follows: how far ahead a
+-- sheet can be, that records are sound, and which refusals never come. proofs/InOrder.antt proves it.
 -- Assumes nothing.
 use mathlib.Core.Path.{_≡_}
 use mathlib.Core.Logic.{_≢_}
@@ -66,8 +67,8 @@ pub record RunsStayInOrder : Type 0 where
   pub run : (shelf : Shelf) (s : State) (cs : List Call) → InOrder shelf s → Run document01 (shelf .n) s cs
       → InOrder shelf (later document01 s cs)
 
--- how far ahead of a desk a sheet can be: of the n numbers from its turn number on one is the desk's own, and not sent; so turn number + n - 2 is the
--- most. That is two below where 17 begins
+-- how far ahead of a desk a sheet can be: of the n numbers from its turn number on one is the desk's own and not sent, and sheets are sent in the order
+-- of their numbers; so turn number + n - 2 is the most. That is two below where 17 begins
 abbrev pub NotFarAhead : Type 0
 NotFarAhead =
     (shelf : Shelf) (s : State) → InOrder shelf s → (p : ℕ) → p < shelf .n → (k : ℕ) → k < length (s .line) → k + 2 ≤ s .desk p .head .turn + shelf .n

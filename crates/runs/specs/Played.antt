@@ -217,13 +217,13 @@ pub record Furthest : Type 0 where
 
 -- ---- "into 396 bytes": fewer may be too few
 
--- one desk alone, 64 cells, and every one of the first n of them written
+-- one desk alone with 64 cells; `written k` writes each of the first k
 abbrev pub fullShelf : Shelf
 fullShelf = record { n = 1; m = 64; mode = λ p. 2 }
 
 unfoldable pub written : ℕ → List Call
 written zero = []
-written (suc n) = written n ++ writes 0 n Open ∷ []
+written (suc k) = written k ++ writes 0 k Open ∷ []
 
 pub record FullSheet : Type 0 where
   pub within : Within fullShelf

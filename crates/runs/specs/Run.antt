@@ -45,7 +45,7 @@ pub record State : Type 0 where
   pub tray : ℕ → List ℕ
   pub line : List Sheet
 
--- the sheet before which k were sent
+-- the sheet before which k were sent (an empty one where there is none; no run delivers that)
 abbrev pub sheetOn : List Sheet → ℕ → Sheet
 sheetOn line k = getD line k (record { from = 0; bytes = [] })
 

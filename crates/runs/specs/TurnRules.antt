@@ -43,7 +43,8 @@ pub data OneOf (calls : Calls) (such : State → Call → Type 0) : State → Li
   first : {s : State} {c : Call} {cs : List Call} → such s c → OneOf calls such s (c ∷ cs)
   further : {s : State} {c : Call} {cs : List Call} → OneOf calls such (after calls s c) cs → OneOf calls such s (c ∷ cs)
 
--- an accepted take of desk p that takes sheet k: this was sent before, and its bytes are in the place of the desk whose turn it is
+-- an accepted take of desk p that takes sheet k: this was sent before, and its bytes are in the place, in p's tray, of the desk whose turn it is.
+-- (Sheets of a run differ, each having its own turn number, specs/InOrder.antt; so a take takes one.)
 pub data TakesSheet (calls : Calls) (p k : ℕ) (s : State) : Call → Type 0 where
   takes-it : (v : Value)
       → made calls s (takes p) .answer ≡ answered v

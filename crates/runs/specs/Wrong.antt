@@ -30,10 +30,11 @@ callsWith send deliver take = record { write = writeOf; read = readOf; send = se
 
 -- ---- 1 and 2, "at most one desk has its own turn", "at most one sent and untaken sheet from each other desk"
 
--- a send after which the turn number is what it was
+-- the record with this head
 abbrev pub withHead : Head → Desk → Desk
 withHead h d = record { head = h; kind = d .kind; day = d .day; pkind = d .pkind; pday = d .pday }
 
+-- a send after which the turn number is what it was
 unfoldable pub sendKeepingTurn : Desk → List ℕ → Done
 sendKeepingTurn d buf =
     let done = sendOf d buf in
@@ -52,8 +53,8 @@ sentTwice = sends 0 lent ∷ sends 0 lent ∷ []
 
 -- ---- 3, "refusal 17 never comes"
 
--- a delivery that is refused with 17 from turn number + n - 2 on. That is two numbers before 01's: where it is one, no sheet of a run would be
--- refused either (specs/InOrder.antt, `NotFarAhead`)
+-- a delivery that is refused with 17 from turn number + n - 2 on, two numbers before 01's: with a bound one number before 01's no sheet of a run would
+-- be refused either (specs/InOrder.antt, `NotFarAhead`)
 unfoldable pub deliverRefusingEarly : Desk → List ℕ → List ℕ → Done
 deliverRefusingEarly d tray s =
     cond (leb (d .head .turn + d .head .n) (trailerIn s .turn + 2)) (record { answer = refused 17; desk = d; lent = tray })

@@ -46,7 +46,7 @@ use Rattle.runs.proofs.Laws.Steps.{put-same, put-other, put-own, withDe
 -- ---- replaced records
 
 module _ {shelf : Shelf} {s : State} (o : InOrder shelf s) (p : ℕ) where
-  pub replaced : (d : Desk) (tray : List ℕ) → DeskInOrder shelf (s .line) p d tray
+  replaced : (d : Desk) (tray : List ℕ) → DeskInOrder shelf (s .line) p d tray
       → InOrder shelf (record { desk = put (s .desk) p d; tray = put (s .tray) p tray; line = s .line })
   replaced d tray k = record { sheets = o .sheets; desks = λ q l. by-desk q l (ℕ-discrete q p) }
     where

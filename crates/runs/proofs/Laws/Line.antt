@@ -1,13 +1,21 @@
--- One more sheet on the line.
---   more-long, more-same, more-last      how long it is then, that the others stay where they are, and where the new one is
+-- The line: sheets stay on it, where they are.
+--   more-long, more-same, more-last      one more sheet: how long the line is then, that the others stay, and where the new one is
+--   Longer, longer, line-kept            after a call, and after a list of calls
 -- Assumes nothing.
-use Prim.Native.Nat.{ℕ, suc, _<_}
-use mathlib.Core.Path.{_≡_, _∙_}
+use Prim.Native.Nat.{ℕ, suc, _<_, _≤_}
+use mathlib.Core.Path.{_≡_, _∙_, refl}
 use mathlib.Core.List.{List, [], _∷_, _++_}
 use native.Mathlib.Numerals.{add-one}
 use lib.ListN.{length, length-append, List·getD-append}
 use lib.Seq.{getD-append-seam}
-use Rattle.runs.specs.Run.{Sheet, sheetOn}
+use Rattle.runs.specs.Run.{Sheet, sheetOn, State, after, later}
+use native.Mathlib.Omega.{arith}
+use Rattle.answer.specs.Answer.{Answer}
+use Rattle.desk.specs.Answers.{Value}
+use Rattle.runs.specs.Calls.{Call, document01}
+use Rattle.runs.proofs.Laws.Steps.{sheetBy, Step, is-refused, is-stored, is-read, is-waiting, is-sent, is-held, is-taken, step}
+
+-- ---- one more sheet
 
 module _ (line : List Sheet) (y : Sheet) where
   abbrev more : List Sheet
@@ -21,3 +29,31 @@ module _ (line : List Sheet) (y : Sheet) where
 
   pub more-last : sheetOn more (length line) ≡ y
   more-last = getD-append-seam line y [] _
+
+-- ---- after calls
+
+pub record Longer (before now : List Sheet) : Type 0 where
+  pub long : length before ≤ length now
+  pub same : (k : ℕ) → k < length before → sheetOn now k ≡ sheetOn before k
+
+as-long : {line : List Sheet} → Longer line line
+as-long = record { long = omega arith; same = λ k l. refl }
+
+pub longer : {s : State} {c : Call} {a : Answer Value} {t : State} → Step s c a t → Longer (s .line) (t .line)
+longer (is-refused c k f) = as-long
+longer (is-stored p cell c silent) = as-long
+longer (is-read p cell silent w) = as-long
+longer (is-waiting p cell silent w) = as-long
+longer {s} (is-sent p buffer silent) =
+    let y : Sheet = record { from = p; bytes = sheetBy (s .desk p) } in
+    record { long = omega (arith, more-long (s .line) y); same = more-same (s .line) y }
+longer (is-held p k silent) = as-long
+longer (is-taken p silent) = as-long
+
+pub line-kept : (s : State) (cs : List Call) → Longer (s .line) (later document01 s cs .line)
+unfolding later
+line-kept s [] = as-long
+line-kept s (c ∷ cs) =
+    let one = longer (step s c) in
+    let rest = line-kept (after document01 s c) cs in
+    record { long = omega (arith, one .long, rest .long); same = λ k l. rest .same k (omega (arith, one .long)) ∙ one .same k l }

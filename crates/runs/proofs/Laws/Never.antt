@@ -1,4 +1,5 @@
 -- The refusals that never come where all is in order (specs/InOrder.antt).
+--   tray-fits, same-shelf, in-reach      tests that pass
 --   next-is-next          what the place of the desk whose turn it is holds passes the test of a take
 --   barred, never         none of the six numbers comes
 -- Assumes nothing.

@@ -1,7 +1,8 @@
 -- What a call of document 01 comes to on a state, case by case: it is refused and nothing changes, or no rule applies and the next state is
 -- written out. Whatever is proved of all runs goes by these cases.
---   put-same, put-other, put-own      a state with one desk's record, or tray, replaced
---   Step, step                        the cases, and that each call is one of them
+--   put-same, put-other, put-own             a state with one desk's record, or tray, replaced
+--   rulesOf, withDesk, sheetBy, takenBy      a call's rules; a state, a sheet and an answer that the cases speak of
+--   Step, step                               the cases, and that each call is one of them
 -- Assumes nothing.
 use Prim.Native.Nat.{ℕ, _+_, _*_}
 use mathlib.Core.Path.{_≡_, refl, sym, ap, _∙_, fun-ext, subst}

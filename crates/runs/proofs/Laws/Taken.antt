@@ -1,5 +1,4 @@
 -- What a desk has gone past it has taken: every sheet of another desk below its turn number was taken by one of the calls.
---   longer, line-kept     sheets stay on the line, where they are: after a call, and after a list of calls
 --   Moves, moves          what a call does to a desk's turn number
 --   never-back            no call takes a turn number back
 --   gone-past             the calls that brought a desk's turn number from below k to above it have a take of sheet k, or k is the desk's own
@@ -10,7 +9,6 @@ use mathlib.Core.Logic.{_≢_}
 use mathlib.Core.List.{List, [], _∷_, _++_}
 use native.Mathlib.Omega.{arith}
 use native.Mathlib.Decide.{ℕ-discrete}
-use lib.ListN.{length}
 use Rattle.answer.specs.Answer.{Answer}
 use Rattle.answer.specs.Promises.{Silent}
 use Rattle.sound.specs.Head.{turnDesk}
@@ -20,41 +18,12 @@ use Rattle.desk.specs.Answers.{Value}
 use Rattle.desk.specs.Calls.{writtenDesk, waitingDesk, sentDesk, takeRules, entriesTaken, takenDesk}
 use Rattle.desk.proofs.Laws.Allowed.{take-allows}
 use Rattle.runs.specs.Calls.{Call, document01, sends, takes}
-use Rattle.runs.specs.Run.{Shelf, Sheet, sheetOn, State, made, put, after, Possible, Run, later}
+use Rattle.runs.specs.Run.{Shelf, State, made, put, after, Possible, Run, later}
 use Rattle.runs.specs.InOrder.{InOrder}
 use Rattle.runs.specs.TurnRules.{turnOf, OneOf, first, further, TakesSheet, takes-it}
 use Rattle.runs.proofs.Laws.Steps.{put-same, put-other, sheetBy, Step, is-refused, is-stored, is-read, is-waiting, is-sent, is-held, is-taken, step}
-use Rattle.runs.proofs.Laws.Line.{more-long, more-same}
 use Rattle.runs.proofs.Laws.Order.{next-held}
 use Rattle.runs.proofs.Laws.Keeps.{sender-is, step-in-order}
-
--- ---- the line
-
-pub record Longer (before now : List Sheet) : Type 0 where
-  pub long : length before ≤ length now
-  pub same : (k : ℕ) → k < length before → sheetOn now k ≡ sheetOn before k
-
-as-long : {line : List Sheet} → Longer line line
-as-long = record { long = omega arith; same = λ k l. refl }
-
-pub longer : {s : State} {c : Call} {a : Answer Value} {t : State} → Step s c a t → Longer (s .line) (t .line)
-longer (is-refused c k f) = as-long
-longer (is-stored p cell c silent) = as-long
-longer (is-read p cell silent w) = as-long
-longer (is-waiting p cell silent w) = as-long
-longer {s} (is-sent p buffer silent) =
-    let y : Sheet = record { from = p; bytes = sheetBy (s .desk p) } in
-    record { long = omega (arith, more-long (s .line) y); same = more-same (s .line) y }
-longer (is-held p k silent) = as-long
-longer (is-taken p silent) = as-long
-
-pub line-kept : (s : State) (cs : List Call) → Longer (s .line) (later document01 s cs .line)
-unfolding later
-line-kept s [] = as-long
-line-kept s (c ∷ cs) =
-    let one = longer (step s c) in
-    let rest = line-kept (after document01 s c) cs in
-    record { long = omega (arith, one .long, rest .long); same = λ k l. rest .same k (omega (arith, one .long)) ∙ one .same k l }
 
 -- ---- the turn number
 
