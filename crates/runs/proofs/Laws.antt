@@ -1,4 +1,5 @@
 pub mod Cyclic
+pub mod Shelves
 pub mod Lists
 pub mod Steps
 pub mod Line
@@ -8,4 +9,3 @@ pub mod Never
 pub mod Taken
 pub mod Going
 pub mod Waiting
-pub mod Tested

@@ -3,5 +3,3 @@ pub mod InOrder
 pub mod TurnRules
 pub mod AtTheEnd
 pub mod TheEndComes
-pub mod Played
-pub mod Wrong

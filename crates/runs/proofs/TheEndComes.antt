@@ -25,7 +25,7 @@ use Rattle.runs.proofs.InOrder.{stays-in-order}
 use Rattle.runs.proofs.Laws.Lists.{later-append, run-append}
 use Rattle.runs.proofs.Laws.Steps.{put-same, put-other}
 use Rattle.runs.proofs.Laws.Order.{own-last, turn-desk}
-use Rattle.runs.proofs.Laws.Tested.{sized}
+use Rattle.runs.proofs.Laws.Shelves.{sized}
 use Rattle.runs.proofs.Laws.Going.{can-send, can-take}
 use native.Mathlib.Decide.{ℕ-discrete}
 use Rattle.sound.specs.Head.{turnDesk}

@@ -16,7 +16,7 @@ pub record Calls : Type 0 where
   pub take : Desk → List ℕ → Done
 
 -- document 01's: the definitions that the code's contracts cite (crates/desk/specs/Calls.antt). What is demanded is demanded of these;
--- specs/Wrong.antt has calls of which it is not so
+-- crates/played/specs/Wrong.antt has calls of which it is not so
 abbrev pub document01 : Calls
 document01 =
     record {

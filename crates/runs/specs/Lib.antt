@@ -3,5 +3,3 @@ pub mod Run
 pub mod TurnRules
 pub mod InOrder
 pub mod AtTheEnd
-pub mod Played
-pub mod Wrong

@@ -180,7 +180,7 @@ pub record NobodySends : Type 0 where
 
 -- ---- "refusal 17 never comes": how near to it a delivery gets
 
--- 01's table, 17: "sheet's number at or above turn number + n". The greatest that can be delivered is turn number + n - 2 (specs/InOrder.antt,
+-- 01's table, 17: "sheet's number at or above turn number + n". The greatest that can be delivered is turn number + n - 2 (crates/runs/specs/InOrder.antt,
 -- `NotFarAhead`), and here it is: desk 0 sends sheet 0, desk 1 sheet 1 and desk 2 sheet 2, before desk 0 takes any
 unfoldable pub threeSheets : List Call
 threeSheets =

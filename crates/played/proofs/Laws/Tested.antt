@@ -1,7 +1,6 @@
 -- That given calls are a run, and that none of them is such a call, where a test that computes says so.
 --   computing                  a proof with this on its `unfolding` line computes what calls answer and leave
 --   below-two, below-three     what is so of each of the least two or three numbers
---   sized                      a shelf within limits
 --   is-possible, is-run        a call is one that a run may have next; so is every one of these calls
 --   answered-last              the last of these calls answers a read, and all others let it wait
 --   no-take, no-answer         none of these calls takes a sheet at desk p; none answers a read of desk p
@@ -12,14 +11,13 @@ use mathlib.Core.List.{List, [], _∷_, _++_}
 use mathlib.Core.Option.{none, some}
 use Prim.Native.Nat.{ℕ, zero, suc, _<_, _^_}
 use native.Mathlib.Omega.{arith}
-use lib.Dec.{eqb, leb, ltb}
+use lib.Dec.{eqb, ltb}
 use lib.Signed.{mag}
 use lib.ListN.{length}
-use borrow.Author.Tests.{ltb-true, leb-true, eqb-true, eq-eqb}
+use borrow.Author.Tests.{ltb-true, eqb-true, eq-eqb}
 use Rattle.answer.specs.Answer.{Answer, refused, answered}
 use Rattle.content.specs.Content.{dayOf}
 use Rattle.laying.specs.Laying.{laidOver}
-use Rattle.numbers.specs.Limits.{within}
 use Rattle.sheet.specs.Good.{good}
 use Rattle.sheet.proofs.Laws.Bools.{and-split}
 use Rattle.cells.specs.Cells.{placeAt, each, putIf}
@@ -31,9 +29,9 @@ use Rattle.pending.specs.Pending.{pendingBelow, sheetOf}
 use Rattle.applying.specs.Applying.{laid, wentOf}
 use Rattle.desk.specs.Answers.{Value, opened, stored, holds, waits, sent, held, taken}
 use Rattle.desk.specs.Calls.{openOf, writeOf, mustWait, readOf, sendOf, deliverOf, takeOf}
 use Rattle.runs.specs.Calls.{Calls, Call, writes, reads, sends, delivers, takes}
-use Rattle.runs.specs.Run.{Within, State, start, made, put, after, Possible, Run, later, answers}
+use Rattle.runs.specs.Run.{State, start, made, put, after, Possible, Run, later, answers}
 use Rattle.runs.specs.TurnRules.{ReadWaits, OneOf, first, further, TakesSheet, takes-it, AnswersRead, answers-it, ReadAnswered, at-this, waits-on, takeOfDesk, takesBy}
 
 -- the definitions of the calls and of a run, and those that they rest on: to unfold this is to unfold all of them
 unfoldable pub computing : Unit {0}
@@ -52,22 +50,6 @@ below-two P a b (suc (suc p)) h = absurd (omega arith)
 pub below-three : (P : ℕ → Type 0) → P 0 → P 1 → P 2 → (p : ℕ) → p < 3 → P p
 below-three P a b c zero h = a
 below-three P a b c (suc p) h = below-two (λ q. P (suc q)) b c p (omega arith)
-
--- ---- a shelf whose desks are all opened in one mode
-
-pub sized : (n m mode : ℕ) → within 1 16 n && within 1 64 m && leb mode 3 ≡ true → Within (record { n = n; m = m; mode = λ p. mode })
-sized n m mode e =
-    let modes = and-split (within 1 16 n && within 1 64 m) (leb mode 3) e in
-    let numbers = and-split (within 1 16 n) (within 1 64 m) (modes .0) in
-    let desks = and-split (leb 1 n) (leb n 16) (numbers .0) in
-    let cells = and-split (leb 1 m) (leb m 64) (numbers .1) in
-    record {
-      desks-least = leb-true 1 n (desks .0);
-      desks-most = leb-true n 16 (desks .1);
-      cells-least = leb-true 1 m (cells .0);
-      cells-most = leb-true m 64 (cells .1);
-      modes-most = λ p h. leb-true mode 3 (modes .1);
-    }
 
 -- ---- a run
 

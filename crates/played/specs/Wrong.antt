@@ -1,4 +1,4 @@
--- Wrong calls: for each part of demand 3 (specs/TurnRules.antt), calls that are 01's but for what is said of each here, and a run of them after
+-- Wrong calls: for each part of demand 3 (crates/runs/specs/TurnRules.antt), calls that are 01's but for what is said of each here, and a run of them after
 -- which that part is false. So each part says something of the calls. proofs/Wrong.antt proves it.
 -- Assumes nothing.
 use mathlib.Core.Bool.{cond}
@@ -13,10 +13,10 @@ use Rattle.sound.specs.declared.Head.{Head}
 use Rattle.desk.specs.declared.Desk.{Desk}
 use Rattle.desk.specs.Answers.{Done}
 use Rattle.desk.specs.Calls.{writeOf, readOf, sendRules, sendOf, deliverOf, takeOf}
 use Rattle.runs.specs.Calls.{Calls, Call, writes, sends, delivers, takes}
 use Rattle.runs.specs.Run.{Shelf, Within, start, Run}
 use Rattle.runs.specs.TurnRules.{OneTurn, OneSheet, No17, GoesOn, WaitEnds}
-use Rattle.runs.specs.Played.{twoDesks, threeDesks, lent, threeSheets}
+use Rattle.played.specs.Played.{twoDesks, threeDesks, lent, threeSheets}
 
 -- such a run, after which this part is false
 pub record Bites (part : Calls → Shelf → List Call → Type 0) (calls : Calls) (shelf : Shelf) (cs : List Call) : Type 0 where
@@ -54,7 +54,7 @@ sentTwice = sends 0 lent ∷ sends 0 lent ∷ []
 -- ---- 3, "refusal 17 never comes"
 
 -- a delivery that is refused with 17 from turn number + n - 2 on, two numbers before 01's: with a bound one number before 01's no sheet of a run would
--- be refused either (specs/InOrder.antt, `NotFarAhead`)
+-- be refused either (crates/runs/specs/InOrder.antt, `NotFarAhead`)
 unfoldable pub deliverRefusingEarly : Desk → List ℕ → List ℕ → Done
 deliverRefusingEarly d tray s =
     cond (leb (d .head .turn + d .head .n) (trailerIn s .turn + 2)) (record { answer = refused 17; desk = d; lent = tray })

@@ -16,13 +16,14 @@ use Rattle.content.specs.declared.Content.the-variants.{Day}
 use Rattle.sheet.proofs.Laws.Bools.{and-split}
 use Rattle.tray.specs.Tray.{sheetAt}
 use Rattle.desk.specs.Calls.{lastTurn}
 use Rattle.runs.specs.Calls.{Call, document01, reads, delivers, takes}
 use Rattle.runs.specs.Run.{Shelf, Within, State, sheetNo, start, Run}
 use Rattle.runs.specs.TurnRules.{now, turnOf, HasTurn, CanSend, CanTake, answers-it}
-use Rattle.runs.specs.Played.{twoDesks, threeDesks, lent, listingCalls, listingAnswers, ListingIsARun, HoldsUntaken, oneSheet, twoSheets, TwoHold, beforeTheRead, whileItWaits, untilAnswered, waitAnswers, sinceTheRead, LongestWait, sheetOnTheLine, NobodySends, threeSheets, threeSheetsAnswers, Furthest, fullShelf, written, FullSheet, RunsPlayed}
+use Rattle.played.specs.Played.{twoDesks, threeDesks, lent, listingCalls, listingAnswers, ListingIsARun, HoldsUntaken, oneSheet, twoSheets, TwoHold, beforeTheRead, whileItWaits, untilAnswered, waitAnswers, sinceTheRead, LongestWait, sheetOnTheLine, NobodySends, threeSheets, threeSheetsAnswers, Furthest, fullShelf, written, FullSheet, RunsPlayed}
 use Rattle.runs.proofs.InOrder.{stays-in-order}
 use Rattle.runs.proofs.Laws.Going.{can-take}
-use Rattle.runs.proofs.Laws.Tested.{computing, below-two, below-three, sized, is-possible, is-run, answered-last, someSeen, seesTake, no-take, no-answer}
+use Rattle.runs.proofs.Laws.Shelves.{sized}
+use Rattle.played.proofs.Laws.Tested.{computing, below-two, below-three, is-possible, is-run, answered-last, someSeen, seesTake, no-take, no-answer}
 
 pub two-within : Within twoDesks
 two-within = sized 2 2 1 refl

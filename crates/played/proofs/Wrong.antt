@@ -10,13 +10,13 @@ use borrow.Author.Tests.{ltb-true}
 use Rattle.answer.specs.Answer.{refused}
 use Rattle.answer.proofs.Laws.{refused-is-not-answered}
 use Rattle.desk.specs.Calls.{lastTurn}
 use Rattle.runs.specs.Calls.{Call, reads, sends, delivers, takes}
 use Rattle.runs.specs.Run.{State, start, made, after}
 use Rattle.runs.specs.TurnRules.{now, turnOf, OneTurn, OneSheet, No17, GoesOn, WaitEnds, Untaken, CanSend, CanTake}
-use Rattle.runs.specs.Played.{twoDesks, threeDesks, lent, threeSheets}
-use Rattle.runs.specs.Wrong.{Bites, sendKeepingTurn, sendKeepsTurn, sentAndTaken, sentTwice, deliverRefusingEarly, refuses17Early, takeLeavingSheet, takeLeavesSheet, roundAndOn, takeEndingNoRead, sendEndingRead, readEndsAtSend, oneWritten, EachPartBites}
-use Rattle.runs.proofs.Laws.Tested.{computing, below-two, below-three, is-possible, is-run, no-take, no-answer}
-use Rattle.runs.proofs.Played.{two-within, three-within}
+use Rattle.played.specs.Played.{twoDesks, threeDesks, lent, threeSheets}
+use Rattle.played.specs.Wrong.{Bites, sendKeepingTurn, sendKeepsTurn, sentAndTaken, sentTwice, deliverRefusingEarly, refuses17Early, takeLeavingSheet, takeLeavesSheet, roundAndOn, takeEndingNoRead, sendEndingRead, readEndsAtSend, oneWritten, EachPartBites}
+use Rattle.played.proofs.Laws.Tested.{computing, below-two, below-three, is-possible, is-run, no-take, no-answer}
+use Rattle.played.proofs.Played.{two-within, three-within}
 
 zero-is-not-one : _≡_ {A = ℕ} 0 1 → ⊥
 zero-is-not-one e = omega arith

@@ -1,0 +1,2 @@
+pub mod Played
+pub mod Wrong
