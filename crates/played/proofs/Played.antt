@@ -5,24 +5,25 @@
 use mathlib.Core.Path.{_≡_, refl, sym, _∙_}
 use mathlib.Core.Bool.{true, false, not, _&&_, false≢true}
 use mathlib.Core.List.{List, [], _∷_, _++_}
-use Prim.Native.Nat.{ℕ, _%_, _<_}
+use Prim.Native.Nat.{ℕ, zero, suc, _%_, _<_}
 use native.Mathlib.Omega.{arith}
 use lib.Dec.{eqb, ltb}
 use lib.IntN.{pos}
 use lib.ListN.{length}
 use borrow.Author.Tests.{ltb-true, eqb-false, not-true}
 use Rattle.answer.proofs.Laws.{refused-is-not-answered}
-use Rattle.content.specs.declared.Content.the-variants.{Day}
+use Rattle.content.specs.declared.Content.the-variants.{Open, Day}
 use Rattle.sheet.proofs.Laws.Bools.{and-split}
 use Rattle.tray.specs.Tray.{sheetAt}
 use Rattle.desk.specs.Calls.{lastTurn}
-use Rattle.runs.specs.Calls.{Call, document01, reads, delivers, takes}
+use Rattle.runs.specs.Calls.{Call, document01, writes, reads, delivers, takes}
 use Rattle.runs.specs.Run.{Shelf, Within, State, sheetNo, start, Run}
 use Rattle.runs.specs.TurnRules.{now, turnOf, HasTurn, CanSend, CanTake, answers-it}
 use Rattle.played.specs.Played.{twoDesks, threeDesks, lent, listingCalls, listingAnswers, ListingIsARun, HoldsUntaken, oneSheet, twoSheets, TwoHold, beforeTheRead, whileItWaits, untilAnswered, waitAnswers, sinceTheRead, LongestWait, sheetOnTheLine, NobodySends, threeSheets, threeSheetsAnswers, Furthest, fullShelf, written, FullSheet, RunsPlayed}
 use Rattle.runs.proofs.InOrder.{stays-in-order}
 use Rattle.runs.proofs.Laws.Going.{can-take}
 use Rattle.runs.proofs.Laws.Shelves.{sized}
+use Rattle.runs.proofs.Laws.Lists.{run-append}
 use Rattle.played.proofs.Laws.Tested.{computing, below-two, below-three, is-possible, is-run, answered-last, someSeen, seesTake, no-take, no-answer}
 
 pub two-within : Within twoDesks
@@ -132,13 +133,18 @@ furthest =
       is-held = refl;
     }
 
+written-runs : (k : ℕ) → Run document01 1 (start fullShelf) (written k)
+unfolding Run written
+written-runs zero = tt
+written-runs (suc k) =
+    run-append document01 1 (start fullShelf) (written k) (writes 0 k Open ∷ []) (written-runs k) ((omega arith, record { sfits = omega arith }), tt)
+
 full-sheet : FullSheet
 unfolding computing written
 full-sheet =
     record {
       within = sized 1 64 2 refl;
-      run = is-run document01 1 (start fullShelf) (written 64) refl;
-      has-turn = refl;
+      run = written-runs 64;
       too-few = refl;
       enough = refl;
     }

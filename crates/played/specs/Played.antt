@@ -228,7 +228,6 @@ written (suc k) = written k ++ writes 0 k Open ∷ []
 pub record FullSheet : Type 0 where
   pub within : Within fullShelf
   pub run : Run document01 1 (start fullShelf) (written 64)
-  pub has-turn : HasTurn (now document01 fullShelf (written 64)) 0
   pub too-few : made document01 (now document01 fullShelf (written 64)) (sends 0 (replicate 395 0)) .answer ≡ refused 11
   pub enough : made document01 (now document01 fullShelf (written 64)) (sends 0 (replicate 396 0)) .answer ≡ answered (sent 0 64)
 
