@@ -78,14 +78,15 @@ roundAndOn = sends 0 lent ∷ delivers 1 0 ∷ takes 1 ∷ sends 1 lent ∷ deli
 
 -- ---- 5, "A read that waits is answered by its desk's accepted take number n-1 at the latest"
 
--- 01, "Slips to rule out": "letting a waiting read answer after its desk's next send". The take that brings the desk's own turn lets the read
--- wait, and the send ends it. The record between the two is not sound, since "a waiting read has .. the turn elsewhere"; so that this
--- desk can go on, its send is refused as it would be if no read waited
+-- the record with this waiting read, or with none
 abbrev pub withWait : ℕ → Desk → Desk
 withWait wait d =
     let h = d .head in
     withHead (record { n = h .n; m = h .m; own = h .own; mode = h .mode; turn = h .turn; wait = wait }) d
 
+-- 01, "Slips to rule out": "letting a waiting read answer after its desk's next send". The take that brings the desk's own turn lets the read
+-- wait, and the send ends it. The record between the two is not sound, since "a waiting read has .. the turn elsewhere"; so that this
+-- desk can go on, its send is refused as it would be if no read waited
 unfoldable pub takeEndingNoRead : Desk → List ℕ → Done
 takeEndingNoRead d tray =
     let done = takeOf (withWait 0 d) tray in

@@ -3,23 +3,23 @@
 --   others-go-on : OthersGoOn
 -- Assumes nothing.
 use Prim.Native.Nat.{ℕ, _<_}
-use mathlib.Core.Path.{_≡_, refl}
+use mathlib.Core.Path.{_≡_, refl, sym, ap, _∙_}
 use mathlib.Core.Logic.{_⊎_, inl, inr}
-use mathlib.Core.Bool.{Bool, true, false, not, _&&_}
+use mathlib.Core.Bool.{Bool, true, false, not, _&&_, false≢true}
 use native.Mathlib.Omega.{arith}
 use lib.Dec.{eqb}
 use lib.ListN.{length}
-use borrow.Author.Tests.{eq-eqb, lt-ltb, eqb-false}
-use Rattle.answer.specs.Answer.{refused}
+use borrow.Author.Tests.{eq-eqb, lt-ltb, eqb-false, not-true}
+use Rattle.answer.specs.Answer.{Answer, refused, answered}
 use Rattle.answer.specs.Promises.{this, later}
-use Rattle.answer.proofs.Laws.{refused-if, refused-only-if}
+use Rattle.answer.proofs.Laws.{refused-if, refused-only-if, answered-only-if}
 use Rattle.layout.specs.Layout.{trailerIn}
 use Rattle.sheet.proofs.Laws.Good.{good-trailer-is-fair}
-use Rattle.desk.specs.Answers.{held, stored}
+use Rattle.desk.specs.Answers.{held, stored, Value}
 use Rattle.desk.specs.Calls.{sound, lastTurn, trayFits, sendRules, sendOf, deliverRules, deliverOf, takeRules, takeOf, writeRules, writeOf, readRules, readOf}
-use Rattle.runs.specs.Calls.{document01, delivers}
-use Rattle.runs.specs.Run.{Shelf, State, sheetNo, made}
-use Rattle.runs.specs.TurnRules.{turnOf}
+use Rattle.runs.specs.Calls.{document01, delivers, Call, takes}
+use Rattle.runs.specs.Run.{Shelf, State, sheetNo, made, after, Possible}
+use Rattle.runs.specs.TurnRules.{turnOf, ReadWaits}
 use Rattle.runs.specs.InOrder.{SheetInOrder, DeskInOrder, InOrder}
 use Rattle.runs.specs.AtTheEnd.{AtItsEnd, NothingBreaks, OthersGoOn}
 use Rattle.runs.proofs.InOrder.{stays-in-order}
@@ -27,6 +27,11 @@ use Rattle.runs.proofs.Laws.Never.{tray-fits, same-shelf}
 use Rattle.runs.proofs.Laws.Taken.{never-back}
 use Rattle.runs.proofs.Laws.Going.{going}
 use Rattle.keeping.proofs.Laws.Rules.{never-given}
+use Rattle.sound.specs.Head.{readWaits, waitCell}
+use Rattle.desk.specs.declared.Desk.{Desk}
+use Rattle.desk.proofs.Laws.Allowed.{take-allows}
+use Rattle.runs.proofs.Laws.Steps.{takenBy, step}
+use Rattle.runs.proofs.Laws.Waiting.{Passes, as-it-was, by-take, passes}
 
 -- ---- what is answered there
 
@@ -65,6 +70,18 @@ module _ {shelf : Shelf} {s : State} (o : InOrder shelf s) (p : ℕ) (here : p <
   other : {a : Bool} (j : ℕ) → eqb j 10 ≡ false → j ≡ 10 → a ≡ false
   other j z e = absurd (eqb-false j 10 z e)
 
+  -- a read that waits: nothing passes but a take, and that is refused
+  no-take : (v : Value) → made document01 s (takes p) .answer ≡ answered v → ⊥
+  unfolding takeOf
+  no-take v e = false≢true (sym (take-allows (s .desk p) (s .tray p) (answered-only-if (takeRules (s .desk p) (s .tray p)) _ v e .0) .not-last) ∙ at-last)
+
+  waits-on : (cell : ℕ) → ReadWaits s p cell → (c : Call) → Possible (shelf .n) s c → ReadWaits (after document01 s c) p cell
+  waits-on cell w c h = by-pass c refl (passes o p here (eqb-false _ _ (not-true _ (w .0))) (step s c))
+    where
+      by-pass : (c : Call) {a : Answer Value} → made document01 s c .answer ≡ a → Passes s p c a (after document01 s c) → ReadWaits (after document01 s c) p cell
+      by-pass c e (as-it-was miss same) = (ap (λ (d : Desk). readWaits (d .head)) same ∙ w .0, ap (λ (d : Desk). waitCell (d .head)) same ∙ w .1)
+      by-pass c e (by-take same) = absurd (no-take (takenBy (s .desk p) (s .tray p)) e)
+
   at-its-end : AtItsEnd (shelf .n) s p
   unfolding writeOf readOf sendOf takeOf
   at-its-end =
@@ -79,6 +96,7 @@ module _ {shelf : Shelf} {s : State} (o : InOrder shelf s) (p : ℕ) (here : p <
             (other 5 refl, λ q. (other 6 refl, λ q. (other 7 refl, λ q. (other 8 refl, λ q. tt))));
         read = λ cell e. never-given (refused-only-if (readRules (s .desk p) cell) _ 10 e) (other 5 refl, λ q. (other 6 refl, λ q. (other 8 refl, λ q. tt)));
         stays = λ c h. let next = stays-in-order .call shelf s c o h in omega (arith, end, never-back o p here c, next .desks p here .fits .turn);
+        waits-on = waits-on;
       }
 
 pub nothing-breaks : NothingBreaks

@@ -16,7 +16,7 @@ use Rattle.sound.specs.Head.{ownTurn}
 use Rattle.desk.specs.Calls.{lastTurn}
 use Rattle.runs.specs.Calls.{Call, document01, writes, reads, sends, delivers, takes}
 use Rattle.runs.specs.Run.{Shelf, Within, State, start, made, after, Possible, Run}
-use Rattle.runs.specs.TurnRules.{now, turnOf, CanSend, CanTake}
+use Rattle.runs.specs.TurnRules.{now, turnOf, CanSend, CanTake, ReadWaits}
 use Rattle.runs.specs.InOrder.{InOrder}
 
 -- what desk p answers there
@@ -28,11 +28,13 @@ pub record AtItsEnd (n : ℕ) (s : State) (p : ℕ) : Type 0 where
   pub other-take : ownTurn (s .desk p .head) ≡ false → made document01 s (takes p) .answer ≡ refused 10
   -- every sheet sent is its own, or was taken: 15 or 16
   pub delivery : (k : ℕ) → k < length (s .line) → (made document01 s (delivers p k) .answer ≡ refused 15) ⊎ (made document01 s (delivers p k) .answer ≡ refused 16)
-  -- writes and reads do not get 10; but a read that waits here is not answered any more, since no take is accepted
+  -- writes and reads do not get 10
   pub write : (cell : ℕ) (c : Content) → made document01 s (writes p cell c) .answer ≢ refused 10
   pub read : (cell : ℕ) → made document01 s (reads p cell) .answer ≢ refused 10
   -- and its turn number stays, whichever call is next
   pub stays : (c : Call) → Possible n s c → turnOf (after document01 s c) p ≡ lastTurn
+  -- and a read that waits goes on waiting: no take is accepted any more
+  pub waits-on : (cell : ℕ) → ReadWaits s p cell → (c : Call) → Possible n s c → ReadWaits (after document01 s c) p cell
 
 -- it is so in every state in order, and so after every run (specs/InOrder.antt)
 abbrev pub NothingBreaks : Type 0
