@@ -13,7 +13,7 @@ use borrow.Author.Tests.{eq-eqb, ne-eqb}
 use Rattle.answer.specs.Answer.{answered}
 use Rattle.desk.specs.declared.Desk.{Desk}
 use Rattle.desk.specs.Answers.{sent}
-use Rattle.desk.specs.Calls.{lastTurn, openOf, sendOf, deliverOf, takeOf}
+use Rattle.desk.specs.Calls.{lastTurn, openOf, sendOf}
 use Rattle.keeping.proofs.Keeping.{numbers-stay}
 use Rattle.runs.specs.Calls.{Call, document01, sends, delivers, takes}
 use Rattle.runs.specs.Run.{State, sheetNo, start, after, Run}
@@ -23,7 +23,7 @@ use Rattle.runs.specs.InOrder.{InOrder}
 use Rattle.runs.specs.AtTheEnd.{oneCell, TheEndComes}
 use Rattle.runs.proofs.InOrder.{stays-in-order}
 use Rattle.runs.proofs.Laws.Lists.{later-append, run-append}
-use Rattle.runs.proofs.Laws.Steps.{put-same, put-other}
+use Rattle.runs.proofs.Laws.Steps.{own-record, other-record}
 use Rattle.runs.proofs.Laws.Order.{own-last, turn-desk}
 use Rattle.runs.proofs.Laws.Shelves.{sized}
 use Rattle.runs.proofs.Laws.Going.{can-send, can-take}
@@ -38,36 +38,8 @@ record Brings (turn : ℕ) : Type 0 where
   desk-0 : turnOf (now document01 oneCell calls) 0 ≡ turn
   desk-1 : turnOf (now document01 oneCell calls) 1 ≡ turn
 
--- a desk's turn number after a call of its own, and after a call of another desk
-module _ (s : State) (r x : ℕ) (apart : x ≢ r) where
-  abbrev turn-in : Desk → ℕ
-  turn-in d = d .head .turn
-
-  sends-own : (b : List ℕ) → turnOf (after document01 s (sends r b)) r ≡ sendOf (s .desk r) b .desk .head .turn
-  unfolding after
-  sends-own b = ap turn-in (put-same (s .desk) r (sendOf (s .desk r) b .desk))
-
-  sends-other : (b : List ℕ) → turnOf (after document01 s (sends r b)) x ≡ turnOf s x
-  unfolding after
-  sends-other b = ap turn-in (put-other (s .desk) r (sendOf (s .desk r) b .desk) x apart)
-
-  delivers-own : (k : ℕ) → turnOf (after document01 s (delivers r k)) r ≡ turnOf s r
-  unfolding after
-  delivers-own k =
-      let sheet = sheetNo s k .bytes in
-      ap turn-in (put-same (s .desk) r (deliverOf (s .desk r) (s .tray r) sheet .desk)) ∙ numbers-stay .deliver-turn (s .desk r) (s .tray r) sheet
-
-  delivers-other : (k : ℕ) → turnOf (after document01 s (delivers r k)) x ≡ turnOf s x
-  unfolding after
-  delivers-other k = ap turn-in (put-other (s .desk) r (deliverOf (s .desk r) (s .tray r) (sheetNo s k .bytes) .desk) x apart)
-
-  takes-own : turnOf (after document01 s (takes r)) r ≡ takeOf (s .desk r) (s .tray r) .desk .head .turn
-  unfolding after
-  takes-own = ap turn-in (put-same (s .desk) r (takeOf (s .desk r) (s .tray r) .desk))
-
-  takes-other : turnOf (after document01 s (takes r)) x ≡ turnOf s x
-  unfolding after
-  takes-other = ap turn-in (put-other (s .desk) r (takeOf (s .desk r) (s .tray r) .desk) x apart)
+abbrev turn-in : Desk → ℕ
+turn-in d = d .head .turn
 
 -- desk p, whose turn it is, sends, and desk q takes that sheet
 module _ (turn : ℕ) (low : turn < lastTurn) (s : State) (o : InOrder oneCell s) (p q : ℕ) (here : p < 2) (there : q < 2) (apart : q ≢ p)
@@ -91,11 +63,11 @@ module _ (turn : ℕ) (low : turn < lastTurn) (s : State) (o : InOrder oneCell s
 
   p₁ : turnOf s₁ p ≡ turn + 1
   unfolding s₁
-  p₁ = sends-own s p q apart lent ∙ numbers-stay .send-turn (s .desk p) lent .carried-out (sent (turnOf s p) (can .0)) (can .1) ∙ ap (λ (k : ℕ). k + 1) at-p
+  p₁ = ap turn-in (own-record document01 s (sends p lent)) ∙ numbers-stay .send-turn (s .desk p) lent .carried-out (sent (turnOf s p) (can .0)) (can .1) ∙ ap (λ (k : ℕ). k + 1) at-p
 
   q₁ : turnOf s₁ q ≡ turn
   unfolding s₁
-  q₁ = sends-other s p q apart lent ∙ at-q
+  q₁ = ap turn-in (other-record document01 s (sends p lent) q apart) ∙ at-q
 
   took : CanTake document01 s₁ q
   took =
@@ -114,13 +86,16 @@ module _ (turn : ℕ) (low : turn < lastTurn) (s : State) (o : InOrder oneCell s
   q₃ : turnOf (runs.later document01 s round) q ≡ turn + 1
   unfolding round s₁ s₂ runs.later
   q₃ =
-      takes-own s₂ q p (λ e. apart (sym e))
+      ap turn-in (own-record document01 s₂ (takes q))
       ∙ numbers-stay .take-turn (s₂ .desk q) (s₂ .tray q) .carried-out _ (took .accepted)
-      ∙ ap (λ (k : ℕ). k + 1) (delivers-own s₁ q p (λ e. apart (sym e)) (took .k) ∙ q₁)
+      ∙ ap (λ (k : ℕ). k + 1) (ap turn-in (own-record document01 s₁ (delivers q (took .k))) ∙ numbers-stay .deliver-turn (s₁ .desk q) (s₁ .tray q) (sheetNo s₁ (took .k) .bytes) ∙ q₁)
 
   p₃ : turnOf (runs.later document01 s round) p ≡ turn + 1
   unfolding round s₁ s₂ runs.later
-  p₃ = takes-other s₂ q p (λ e. apart (sym e)) ∙ delivers-other s₁ q p (λ e. apart (sym e)) (took .k) ∙ p₁
+  p₃ =
+      ap turn-in (other-record document01 s₂ (takes q) p (λ e. apart (sym e)))
+      ∙ ap turn-in (other-record document01 s₁ (delivers q (took .k)) p (λ e. apart (sym e)))
+      ∙ p₁
 
 one-more : (turn : ℕ) → turn < lastTurn → Brings turn → Brings (turn + 1)
 one-more turn low b = by-turn (ℕ-discrete (turn % 2) 0)

@@ -26,7 +26,7 @@ pub record AtItsEnd (n : ℕ) (s : State) (p : ℕ) : Type 0 where
   pub other-send : ownTurn (s .desk p .head) ≡ false → (buffer : List ℕ) → made document01 s (sends p buffer) .answer ≡ refused 9
   pub own-take : ownTurn (s .desk p .head) ≡ true → made document01 s (takes p) .answer ≡ refused 19
   pub other-take : ownTurn (s .desk p .head) ≡ false → made document01 s (takes p) .answer ≡ refused 10
-  -- every sheet sent is its own, or was taken: 15 or 16
+  -- every sheet sent is its own, or has a number below its turn number: 15 or 16
   pub delivery : (k : ℕ) → k < length (s .line) → (made document01 s (delivers p k) .answer ≡ refused 15) ⊎ (made document01 s (delivers p k) .answer ≡ refused 16)
   -- writes and reads do not get 10
   pub write : (cell : ℕ) (c : Content) → made document01 s (writes p cell c) .answer ≢ refused 10

@@ -1,6 +1,7 @@
 -- What a call of document 01 comes to on a state, case by case: it is refused and nothing changes, or no rule applies and the next state is
 -- written out. Whatever is proved of all runs goes by these cases.
 --   put-same, put-other, put-own             a state with one desk's record, or tray, replaced
+--   deskOf, own-record, other-record         whose call it is: that desk's next record, and that the others keep theirs
 --   rulesOf, withDesk, sheetBy, takenBy      a call's rules; a state, a sheet and an answer that the cases speak of
 --   Step, step                               the cases, and that each call is one of them
 -- Assumes nothing.
@@ -27,7 +28,7 @@ use Rattle.applying.specs.Applying.{goes, wentOf}
 use Rattle.desk.specs.declared.Desk.{Desk}
 use Rattle.desk.specs.Answers.{Value, stored, holds, waits, sent, held, taken, Done, call}
 use Rattle.desk.specs.Calls.{writeRules, writtenDesk, writeOf, readRules, mustWait, waitingDesk, readOf, sendRules, sentDesk, sendOf, deliverRules, deliverOf, takeRules, entriesTaken, takenDesk, waitedFor, takeOf}
-use Rattle.runs.specs.Calls.{Call, document01, writes, reads, sends, delivers, takes}
+use Rattle.runs.specs.Calls.{Calls, Call, document01, writes, reads, sends, delivers, takes}
 use Rattle.runs.specs.Run.{Sheet, State, sheetNo, made, put, sheetLeft, after}
 
 -- ---- one desk's
@@ -48,6 +49,32 @@ module _ {A : Type 0} (f : ℕ → A) (p : ℕ) where
       by-test : (q : ℕ) (t : Bool) → eqb q p ≡ t → cond (eqb q p) (f p) (f q) ≡ f q
       by-test q true e = rw e (ap f (sym (eqb-true q p e)))
       by-test q false e = rw e
+
+-- ---- whose call it is
+
+abbrev pub deskOf : Call → ℕ
+deskOf (writes p cell c) = p
+deskOf (reads p cell) = p
+deskOf (sends p buffer) = p
+deskOf (delivers p k) = p
+deskOf (takes p) = p
+
+module _ (calls : Calls) (s : State) where
+  pub own-record : (c : Call) → after calls s c .desk (deskOf c) ≡ made calls s c .desk
+  unfolding after
+  own-record (writes p cell c) = put-same (s .desk) p (made calls s (writes p cell c) .desk)
+  own-record (reads p cell) = put-same (s .desk) p (made calls s (reads p cell) .desk)
+  own-record (sends p buffer) = put-same (s .desk) p (made calls s (sends p buffer) .desk)
+  own-record (delivers p k) = put-same (s .desk) p (made calls s (delivers p k) .desk)
+  own-record (takes p) = put-same (s .desk) p (made calls s (takes p) .desk)
+
+  pub other-record : (c : Call) (q : ℕ) → q ≢ deskOf c → after calls s c .desk q ≡ s .desk q
+  unfolding after
+  other-record (writes p cell c) q apart = put-other (s .desk) p (made calls s (writes p cell c) .desk) q apart
+  other-record (reads p cell) q apart = put-other (s .desk) p (made calls s (reads p cell) .desk) q apart
+  other-record (sends p buffer) q apart = put-other (s .desk) p (made calls s (sends p buffer) .desk) q apart
+  other-record (delivers p k) q apart = put-other (s .desk) p (made calls s (delivers p k) .desk) q apart
+  other-record (takes p) q apart = put-other (s .desk) p (made calls s (takes p) .desk) q apart
 
 -- ---- the cases
 
