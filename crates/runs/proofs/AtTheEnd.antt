@@ -40,7 +40,7 @@ module _ {shelf : Shelf} {s : State} (o : InOrder shelf s) (p : ℕ) (here : p <
   mine = o .desks p here
 
   no-5 : not (sound (s .desk p)) ≡ false
-  no-5 = rw (mine .is-sound)
+  no-5 = rw (mine .as-opened .is-sound)
 
   no-12 : not (trayFits (s .desk p) (s .tray p)) ≡ false
   no-12 = rw (tray-fits mine)
@@ -95,7 +95,7 @@ module _ {shelf : Shelf} {s : State} (o : InOrder shelf s) (p : ℕ) (here : p <
             never-given (refused-only-if (writeRules (s .desk p) cell c) stored 10 e)
             (other 5 refl, λ q. (other 6 refl, λ q. (other 7 refl, λ q. (other 8 refl, λ q. tt))));
         read = λ cell e. never-given (refused-only-if (readRules (s .desk p) cell) _ 10 e) (other 5 refl, λ q. (other 6 refl, λ q. (other 8 refl, λ q. tt)));
-        stays = λ c h. let next = stays-in-order .call shelf s c o h in omega (arith, end, never-back o p here c, next .desks p here .fits .turn);
+        stays = λ c h. let next = stays-in-order .call shelf s c o h in omega (arith, end, never-back o p here c, next .desks p here .as-opened .fits .turn);
         waits-on = waits-on;
       }
 

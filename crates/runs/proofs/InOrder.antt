@@ -66,12 +66,15 @@ module _ (shelf : Shelf) (w : Within shelf) (p : ℕ) (here : p < shelf .n) wher
       let rules = openRules (shelf .n) (shelf .m) p (shelf .mode p) in
       let is = changed-if rules (blankDesk (freshHead 0 0 0 0)) (blankDesk (freshHead (shelf .n) (shelf .m) p (modeFor (shelf .mode p)))) allowed in
       record {
-        is-sound = open-is-sound .sound-record (shelf .n) (shelf .m) p (shelf .mode p) opens;
-        fits = open-is-sound .record-fits (shelf .n) (shelf .m) p (shelf .mode p);
-        n = ap (λ (x : Desk). x .head .n) is;
-        m = ap (λ (x : Desk). x .head .m) is;
-        own = ap (λ (x : Desk). x .head .own) is;
-        mode = ap (λ (x : Desk). x .head .mode) is;
+        as-opened =
+            record {
+              is-sound = open-is-sound .sound-record (shelf .n) (shelf .m) p (shelf .mode p) opens;
+              fits = open-is-sound .record-fits (shelf .n) (shelf .m) p (shelf .mode p);
+              n = ap (λ (x : Desk). x .head .n) is;
+              m = ap (λ (x : Desk). x .head .m) is;
+              own = ap (λ (x : Desk). x .head .own) is;
+              mode = ap (λ (x : Desk). x .head .mode) is;
+            };
         no-further = let z = ap (λ (x : Desk). x .head .turn) is in omega (arith, z);
         past-own = λ k l e. absurd (omega arith);
         tray-long = length-replicate (398 * shelf .n) 0;
@@ -99,7 +102,7 @@ pub not-far-ahead : NotFarAhead
 not-far-ahead shelf s o p here k sent = omega (arith, near (o .desks p here))
 
 pub records-are-sound : RecordsAreSound
-records-are-sound shelf w cs r p here = run-in-order shelf (start shelf) cs (fresh shelf w) r .desks p here .is-sound
+records-are-sound shelf w cs r p here = run-in-order shelf (start shelf) cs (fresh shelf w) r .desks p here .as-opened .is-sound
 
 -- ---- the refusals that never come
 

@@ -155,8 +155,8 @@ ended b =
       run = b .run;
       desk-0 = b .desk-0;
       desk-1 = b .desk-1;
-      send-10 = nothing-breaks oneCell s o 1 (omega arith) (b .desk-1) .own-send (eq-eqb (turnDesk (s .desk 1 .head)) (s .desk 1 .head .own) (turn-1 ∙ sym (one .own)));
-      take-10 = nothing-breaks oneCell s o 0 (omega arith) (b .desk-0) .other-take (ne-eqb (turnDesk (s .desk 0 .head)) (s .desk 0 .head .own) (λ e. omega (arith, e, turn-0, none .own)));
+      send-10 = nothing-breaks oneCell s o 1 (omega arith) (b .desk-1) .own-send (eq-eqb (turnDesk (s .desk 1 .head)) (s .desk 1 .head .own) (turn-1 ∙ sym (one .as-opened .own)));
+      take-10 = nothing-breaks oneCell s o 0 (omega arith) (b .desk-0) .other-take (ne-eqb (turnDesk (s .desk 0 .head)) (s .desk 0 .head .own) (λ e. omega (arith, e, turn-0, none .as-opened .own)));
     }
 
 pub the-end-comes : TheEndComes

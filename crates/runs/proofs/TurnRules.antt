@@ -31,7 +31,7 @@ use Rattle.runs.proofs.Laws.Waiting.{wait-ended}
 has-turn : {shelf : Shelf} {s : State} → InOrder shelf s → (p : ℕ) → p < shelf .n → HasTurn s p → p ≡ length (s .line) % shelf .n
 has-turn {shelf} o p here e =
     let mine = o .desks p here in
-    let own = sym (turn-desk mine) ∙ eqb-true _ _ e ∙ mine .own in
+    let own = sym (turn-desk mine) ∙ eqb-true _ _ e ∙ mine .as-opened .own in
     sym own ∙ ap (λ (k : ℕ). k % shelf .n) (own-last mine own)
 
 -- after a read that waits, it does
@@ -96,7 +96,7 @@ module _ (shelf : Shelf) (w : Within shelf) (cs : List Call) (r : Run document01
       apart : turnOf t p ≢ mine .k
       apart z =
           let at = later-order .desks p here in
-          desk-sound at .waits (λ none. omega (arith, none, waiting)) .elsewhere (turn-desk at ∙ ap (λ (k : ℕ). k % shelf .n) z ∙ mine .leaves ∙ sym (at .own))
+          desk-sound at .waits (λ none. omega (arith, none, waiting)) .elsewhere (turn-desk at ∙ ap (λ (k : ℕ). k % shelf .n) z ∙ mine .leaves ∙ sym (at .as-opened .own))
 
 pub turn-rules : Demand3 document01
 turn-rules shelf w cs r =

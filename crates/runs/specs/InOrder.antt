@@ -39,15 +39,18 @@ pub data PlaceInOrder (n : ℕ) (line : List Sheet) (turn : ℕ) (tray : List �
       → sheetAt tray q ≡ sheetOn line k .bytes
       → PlaceInOrder n line turn tray q
 
--- desk p's record and tray
-pub record DeskInOrder (shelf : Shelf) (line : List Sheet) (p : ℕ) (d : Desk) (tray : List ℕ) : Type 0 where
+-- desk p's record is sound, and has the numbers that it was opened with
+pub record AsOpened (shelf : Shelf) (p : ℕ) (d : Desk) : Type 0 where
   pub is-sound : sound d ≡ true
   pub fits : DeskFits d
-  -- the numbers that it was opened with
   pub n : d .head .n ≡ shelf .n
   pub m : d .head .m ≡ shelf .m
   pub own : d .head .own ≡ p
   pub mode : d .head .mode ≡ modeFor (shelf .mode p)
+
+-- desk p's record and tray
+pub record DeskInOrder (shelf : Shelf) (line : List Sheet) (p : ℕ) (d : Desk) (tray : List ℕ) : Type 0 where
+  pub as-opened : AsOpened shelf p d
   -- it has taken no sheet that was not sent, and has gone past every sheet of its own
   pub no-further : d .head .turn ≤ length line
   pub past-own : (k : ℕ) → k < length line → k % shelf .n ≡ p → k < d .head .turn

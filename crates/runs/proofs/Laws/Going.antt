@@ -50,8 +50,8 @@ module _ {shelf : Shelf} {line : List Sheet} {p : ℕ} {d : Desk} {tray : List �
   sends-now : d .head .turn % shelf .n ≡ p → (buffer : List ℕ) → 396 ≤ length buffer → SendAllowed d buffer
   sends-now own buffer long =
       record {
-        is-sound = o .is-sound;
-        own-turn = eq-eqb (turnDesk (d .head)) (d .head .own) (turn-desk o ∙ own ∙ sym (o .own));
+        is-sound = o .as-opened .is-sound;
+        own-turn = eq-eqb (turnDesk (d .head)) (d .head .own) (turn-desk o ∙ own ∙ sym (o .as-opened .own));
         not-last = before-end;
         room = omega (arith, sheet-most (d .head) (d .pkind) (d .pday));
       }
@@ -61,10 +61,10 @@ module _ {shelf : Shelf} {line : List Sheet} {p : ℕ} {d : Desk} {tray : List �
   takes-now : ((k : ℕ) → k < length line → SheetInOrder shelf k (sheetOn line k)) → d .head .turn % shelf .n ≢ p → free tray (turnDesk (d .head)) ≡ false
       → TakeAllowed d tray
   takes-now sheets other f =
-      let away : turnDesk (d .head) ≢ d .head .own = λ e. other (sym (turn-desk o) ∙ e ∙ o .own) in
+      let away : turnDesk (d .head) ≢ d .head .own = λ e. other (sym (turn-desk o) ∙ e ∙ o .as-opened .own) in
       record {
-        is-sound = o .is-sound;
-        tray-fits = o .tray-long ∙ ap (λ (n : ℕ). 398 * n) (sym (o .n));
+        is-sound = o .as-opened .is-sound;
+        tray-fits = o .tray-long ∙ ap (λ (n : ℕ). 398 * n) (sym (o .as-opened .n));
         elsewhere = ne-eqb (turnDesk (d .head)) (d .head .own) away;
         not-last = before-end;
         not-free = f;
@@ -109,8 +109,8 @@ module _ {shelf : Shelf} {s : State} (o : InOrder shelf s) (p : ℕ) (here : p <
   -- of the rules of a delivery only 18 can apply
   only-18 : (j : ℕ) → First j (deliverRules d (s .tray p) sheet) → (j ≡ 18) × (free (s .tray p) (trailerIn sheet .sender) ≡ false)
   only-18 j f =
-      let own : trailerIn sheet .sender ≢ d .head .own = λ e. other (sym (x .sender) ∙ e ∙ mine .own) in
-      last (skip (in-reach mine k x behind) (skip (le-ltb (trailerIn sheet .turn) k (omega (arith, x .turn))) (skip (ne-eqb (trailerIn sheet .sender) (d .head .own) own) (skip (rw (same-shelf mine k x)) (skip (rw (x .is-good)) (skip (rw (tray-fits mine)) (skip (rw (mine .is-sound)) f)))))))
+      let own : trailerIn sheet .sender ≢ d .head .own = λ e. other (sym (x .sender) ∙ e ∙ mine .as-opened .own) in
+      last (skip (in-reach mine k x behind) (skip (le-ltb (trailerIn sheet .turn) k (omega (arith, x .turn))) (skip (ne-eqb (trailerIn sheet .sender) (d .head .own) own) (skip (rw (same-shelf mine k x)) (skip (rw (x .is-good)) (skip (rw (tray-fits mine)) (skip (rw (mine .as-opened .is-sound)) f)))))))
     where
       last : First j ((record { number = 18; applies = not (free (s .tray p) (trailerIn sheet .sender)) }) ∷ []) → (j ≡ 18) × (free (s .tray p) (trailerIn sheet .sender) ≡ false)
       last (this e n) = (sym n, not-true _ e)

@@ -22,6 +22,7 @@ use Rattle.content.specs.declared.Content.{Content}
 use Rattle.content.specs.Content.{dayOf}
 use Rattle.layout.specs.Layout.{trailerIn}
 use Rattle.layout.specs.declared.Numbers.{Numbers}
+use Rattle.layout.specs.Values.{AreBytes}
 use Rattle.sheet.proofs.Laws.Good.{good-within}
 use Rattle.sound.specs.Head.{turnDesk}
 use Rattle.tray.specs.Tray.{start, holdsGood, heldIn, clearedIn}
@@ -38,7 +39,7 @@ use Rattle.keeping.proofs.Keeping.{keeps-sound, keeps-fits, numbers-stay}
 use Rattle.keeping.proofs.Laws.Sheets.{sheet-good, sheet-numbers}
 use Rattle.runs.specs.Calls.{Call}
 use Rattle.runs.specs.Run.{Shelf, Sheet, sheetOn, State, put, Possible}
-use Rattle.runs.specs.InOrder.{SheetInOrder, PlaceInOrder, is-free, holds-sheet, DeskInOrder, InOrder}
+use Rattle.runs.specs.InOrder.{SheetInOrder, PlaceInOrder, is-free, holds-sheet, AsOpened, DeskInOrder, InOrder}
 use Rattle.runs.proofs.Laws.Line.{more-long, more-same, more-last}
 use Rattle.runs.proofs.Laws.Order.{desk-sound, some-desks, own-last, turn-desk, turn-below, next-held, none-left}
 use Rattle.runs.proofs.Laws.Steps.{put-same, put-other, put-own, withDesk, sheetBy, Step, is-refused, is-stored, is-read, is-waiting, is-sent, is-held, is-taken}
@@ -65,18 +66,39 @@ module _ {shelf : Shelf} {s : State} (o : InOrder shelf s) (p : ℕ) where
       subst (λ (f : ℕ → Desk). InOrder shelf (record { desk = f; tray = put (s .tray) p tray; line = s .line })) (put-own (s .desk) p)
       (replaced (s .desk p) tray k)
 
--- ---- write and read: the numbers, the turn and the tray stay
+-- ---- a desk's next record is sound and has the same numbers, whatever the call answers
 
-module _ {shelf : Shelf} {line : List Sheet} {p : ℕ} {d : Desk} {tray : List ℕ} (o : DeskInOrder shelf line p d tray) where
-  as-before : (x : Desk) → sound x ≡ true → DeskFits x → SameNumbers d x → SameTurn d x → DeskInOrder shelf line p x tray
-  as-before x is-sound fits same turn =
+module _ {shelf : Shelf} {p : ℕ} {d : Desk} (a : AsOpened shelf p d) where
+  still-opened : (x : Desk) → sound x ≡ true → DeskFits x → SameNumbers d x → AsOpened shelf p x
+  still-opened x is-sound fits same =
       record {
         is-sound = is-sound;
         fits = fits;
-        n = same .n ∙ o .n;
-        m = same .m ∙ o .m;
-        own = same .own ∙ o .own;
-        mode = same .mode ∙ o .mode;
+        n = same .n ∙ a .n;
+        m = same .m ∙ a .m;
+        own = same .own ∙ a .own;
+        mode = same .mode ∙ a .mode;
+      }
+
+  after-write : (cell : ℕ) (c : Content) → SFits w32 (dayOf c) → AsOpened shelf p (writeOf d cell c .desk)
+  after-write cell c day = still-opened _ (keeps-sound .write d cell c (a .fits) (a .is-sound)) (keeps-fits .write d cell c day (a .fits)) (numbers-stay .write d cell c)
+
+  after-read : (cell : ℕ) → AsOpened shelf p (readOf d cell .desk)
+  after-read cell = still-opened _ (keeps-sound .read d cell (a .fits) (a .is-sound)) (keeps-fits .read d cell (a .fits)) (numbers-stay .read d cell)
+
+  after-send : (buffer : List ℕ) → AsOpened shelf p (sendOf d buffer .desk)
+  after-send buffer = still-opened _ (keeps-sound .send d buffer (a .fits) (a .is-sound)) (keeps-fits .send d buffer (a .fits)) (numbers-stay .send d buffer)
+
+  after-take : (tray : List ℕ) → AreBytes tray → AsOpened shelf p (takeOf d tray .desk)
+  after-take tray bytes = still-opened _ (keeps-sound .take d tray (a .fits) (a .is-sound)) (keeps-fits .take d tray bytes (a .fits)) (numbers-stay .take d tray)
+
+-- ---- write and read: the turn and the tray stay
+
+module _ {shelf : Shelf} {line : List Sheet} {p : ℕ} {d : Desk} {tray : List ℕ} (o : DeskInOrder shelf line p d tray) where
+  as-before : (x : Desk) → AsOpened shelf p x → SameTurn d x → DeskInOrder shelf line p x tray
+  as-before x opened turn =
+      record {
+        as-opened = opened;
         no-further = rw turn (o .no-further);
         past-own = rw turn (o .past-own);
         tray-long = o .tray-long;
@@ -88,14 +110,14 @@ module _ {shelf : Shelf} {line : List Sheet} {p : ℕ} {d : Desk} {tray : List �
   unfolding writeOf
   stored-in-order cell c day silent =
       subst (λ (x : Desk). DeskInOrder shelf line p x tray) (changed-if (writeRules d cell c) d (writtenDesk d cell c) silent)
-      (as-before (writeOf d cell c .desk) (keeps-sound .write d cell c (o .fits) (o .is-sound)) (keeps-fits .write d cell c day (o .fits)) (numbers-stay .write d cell c) (numbers-stay .write-turn d cell c))
+      (as-before (writeOf d cell c .desk) (after-write (o .as-opened) cell c day) (numbers-stay .write-turn d cell c))
 
   waiting-in-order : (cell : ℕ) → Silent (readRules d cell) → mustWait d cell ≡ true → DeskInOrder shelf line p (waitingDesk d cell) tray
   unfolding readOf
   waiting-in-order cell silent w =
       subst (λ (x : Desk). DeskInOrder shelf line p x tray)
       (changed-if (readRules d cell) d (cond (mustWait d cell) (waitingDesk d cell) d) silent ∙ ap (λ (t : Bool). cond t (waitingDesk d cell) d) w)
-      (as-before (readOf d cell .desk) (keeps-sound .read d cell (o .fits) (o .is-sound)) (keeps-fits .read d cell (o .fits)) (numbers-stay .read d cell) (numbers-stay .read-turn d cell))
+      (as-before (readOf d cell .desk) (after-read (o .as-opened) cell) (numbers-stay .read-turn d cell))
 
 -- ---- deliver: one place of the tray
 
@@ -125,12 +147,7 @@ module _ {shelf : Shelf} {line : List Sheet} {p : ℕ} {d : Desk} {tray : List �
   held-in-order : Silent (deliverRules d tray sheet) → DeskInOrder shelf line p d (heldIn tray q sheet)
   held-in-order silent =
       record {
-        is-sound = o .is-sound;
-        fits = o .fits;
-        n = o .n;
-        m = o .m;
-        own = o .own;
-        mode = o .mode;
+        as-opened = o .as-opened;
         no-further = o .no-further;
         past-own = o .past-own;
         tray-long = held-long tray q sheet ∙ o .tray-long;
@@ -153,12 +170,7 @@ module _ {shelf : Shelf} {line : List Sheet} {p : ℕ} {d : Desk} {tray : List �
   unfolding takeOf
   taken-in-order silent =
       record {
-        is-sound = subst (λ (x : Desk). sound x ≡ true) is (keeps-sound .take d tray (o .fits) (o .is-sound));
-        fits = subst DeskFits is (keeps-fits .take d tray (o .tray-bytes) (o .fits));
-        n = o .n;
-        m = o .m;
-        own = o .own;
-        mode = o .mode;
+        as-opened = subst (AsOpened shelf p) is (after-take (o .as-opened) tray (o .tray-bytes));
         no-further = omega (arith, next-held o (take-allows d tray silent .not-free) .sent);
         past-own = λ k l e. omega (arith, o .past-own k l e);
         tray-long = cleared-long tray (turnDesk (d .head)) ∙ o .tray-long;
@@ -205,12 +217,7 @@ module _ (line : List Sheet) (y : Sheet) where
   more-desk : (shelf : Shelf) (p : ℕ) (d : Desk) (tray : List ℕ) → length line % shelf .n ≢ p → DeskInOrder shelf line p d tray → DeskInOrder shelf more p d tray
   more-desk shelf p d tray other o =
       record {
-        is-sound = o .is-sound;
-        fits = o .fits;
-        n = o .n;
-        m = o .m;
-        own = o .own;
-        mode = o .mode;
+        as-opened = o .as-opened;
         no-further = omega (arith, o .no-further, more-long line y);
         past-own = λ k l e. by-test k l e (decLt k (length line));
         tray-long = o .tray-long;
@@ -229,7 +236,7 @@ module _ {shelf : Shelf} {line : List Sheet} {p : ℕ} {d : Desk} {tray : List �
 
   -- the sender is the desk whose turn it is, and its turn number is how many were sent before
   pub sender-is : d .head .turn % shelf .n ≡ p
-  sender-is = sym (turn-desk o) ∙ eqb-true _ _ (allowed .own-turn) ∙ o .own
+  sender-is = sym (turn-desk o) ∙ eqb-true _ _ (allowed .own-turn) ∙ o .as-opened .own
 
   pub number-is : d .head .turn ≡ length line
   number-is = own-last o sender-is
@@ -239,15 +246,15 @@ module _ {shelf : Shelf} {line : List Sheet} {p : ℕ} {d : Desk} {tray : List �
 
   sent-sheet : SheetInOrder shelf (length line) y
   sent-sheet =
-      let numbers = sheet-numbers d (o .fits) (desk-sound o) (allowed .own-turn) (allowed .not-last) in
+      let numbers = sheet-numbers d (o .as-opened .fits) (desk-sound o) (allowed .own-turn) (allowed .not-last) in
       let at : p ≡ length line % shelf .n = sym sender-is ∙ ap (λ (j : ℕ). j % shelf .n) number-is in
       record {
         from = at;
-        is-good = sheet-good d (o .fits) (desk-sound o) (allowed .own-turn) (allowed .not-last);
+        is-good = sheet-good d (o .as-opened .fits) (desk-sound o) (allowed .own-turn) (allowed .not-last);
         are-bytes = let z = desk-sound o in sheet-bytes (d .head) (d .pkind) (d .pday) (z .own-below) (z .desks-most) (z .cells-most) (z .pkind-is);
-        sender = ap (λ (x : Numbers). x .sender) numbers ∙ o .own ∙ at;
-        desks = ap (λ (x : Numbers). x .desks) numbers ∙ o .n;
-        cells = ap (λ (x : Numbers). x .cells) numbers ∙ o .m;
+        sender = ap (λ (x : Numbers). x .sender) numbers ∙ o .as-opened .own ∙ at;
+        desks = ap (λ (x : Numbers). x .desks) numbers ∙ o .as-opened .n;
+        cells = ap (λ (x : Numbers). x .cells) numbers ∙ o .as-opened .m;
         turn = ap (λ (x : Numbers). x .turn) numbers ∙ number-is;
       }
 
@@ -257,12 +264,7 @@ module _ {shelf : Shelf} {line : List Sheet} {p : ℕ} {d : Desk} {tray : List �
       let is : sendOf d buffer .desk ≡ sentDesk d = changed-if (sendRules d buffer) d (sentDesk d) silent in
       let long = more-long line y in
       record {
-        is-sound = subst (λ (x : Desk). sound x ≡ true) is (keeps-sound .send d buffer (o .fits) (o .is-sound));
-        fits = subst DeskFits is (keeps-fits .send d buffer (o .fits));
-        n = o .n;
-        m = o .m;
-        own = o .own;
-        mode = o .mode;
+        as-opened = subst (AsOpened shelf p) is (after-send (o .as-opened) buffer);
         no-further = omega (arith, number-is, long);
         past-own = λ k l e. omega (arith, number-is, long);
         tray-long = o .tray-long;

@@ -33,24 +33,24 @@ use Rattle.runs.proofs.Laws.Steps.{rulesOf, Step, is-refused, is-stored
 
 module _ {shelf : Shelf} {line : List Sheet} {p : ℕ} {d : Desk} {tray : List ℕ} (o : DeskInOrder shelf line p d tray) where
   pub tray-fits : trayFits d tray ≡ true
-  tray-fits = eq-eqb (length tray) (398 * d .head .n) (o .tray-long ∙ ap (λ (n : ℕ). 398 * n) (sym (o .n)))
+  tray-fits = eq-eqb (length tray) (398 * d .head .n) (o .tray-long ∙ ap (λ (n : ℕ). 398 * n) (sym (o .as-opened .n)))
 
   module _ (k : ℕ) (x : SheetInOrder shelf k (sheetOn line k)) where
     abbrev sheet : List ℕ
     sheet = sheetOn line k .bytes
 
     pub same-shelf : eqb (trailerIn sheet .desks) (d .head .n) && eqb (trailerIn sheet .cells) (d .head .m) ≡ true
-    same-shelf = rw (eq-eqb (trailerIn sheet .desks) (d .head .n) (x .desks ∙ sym (o .n)), eq-eqb (trailerIn sheet .cells) (d .head .m) (x .cells ∙ sym (o .m)))
+    same-shelf = rw (eq-eqb (trailerIn sheet .desks) (d .head .n) (x .desks ∙ sym (o .as-opened .n)), eq-eqb (trailerIn sheet .cells) (d .head .m) (x .cells ∙ sym (o .as-opened .m)))
 
     pub in-reach : k < length line → leb (d .head .turn + d .head .n) (trailerIn sheet .turn) ≡ false
-    in-reach sent = lt-leb (d .head .turn + d .head .n) (trailerIn sheet .turn) (omega (arith, near o, o .n, x .turn))
+    in-reach sent = lt-leb (d .head .turn + d .head .n) (trailerIn sheet .turn) (omega (arith, near o, o .as-opened .n, x .turn))
 
   pub next-is-next : ((k : ℕ) → k < length line → SheetInOrder shelf k (sheetOn line k)) → free tray (turnDesk (d .head)) ≡ false
       → Next (d .head) (numbersOf (trailerIn (sheetAt tray (turnDesk (d .head)))))
   next-is-next sheets f =
       let z = next-held o f in
       let x = sheets (d .head .turn) (z .sent) in
-      rw (z .is) (record { desks = x .desks ∙ sym (o .n); cells = x .cells ∙ sym (o .m); sender = x .sender ∙ sym (turn-desk o); turn = x .turn })
+      rw (z .is) (record { desks = x .desks ∙ sym (o .as-opened .n); cells = x .cells ∙ sym (o .as-opened .m); sender = x .sender ∙ sym (turn-desk o); turn = x .turn })
 
 -- ---- the six
 
@@ -64,7 +64,7 @@ module _ (shelf : Shelf) (s : State) (o : InOrder shelf s) (k : ℕ) (b : barred
 
   module _ {p : ℕ} (here : p < shelf .n) where
     no-5 : not (sound (s .desk p)) ≡ false
-    no-5 = rw (o .desks p here .is-sound)
+    no-5 = rw (o .desks p here .as-opened .is-sound)
 
     no-12 : not (trayFits (s .desk p) (s .tray p)) ≡ false
     no-12 = rw (tray-fits (o .desks p here))

@@ -25,10 +25,10 @@ use Rattle.runs.proofs.Laws.Cyclic.{window, Next, next}
 
 module _ {shelf : Shelf} {line : List Sheet} {p : ℕ} {d : Desk} {tray : List ℕ} (o : DeskInOrder shelf line p d tray) where
   pub desk-sound : SoundDesk d
-  desk-sound = desk-says d (o .is-sound)
+  desk-sound = desk-says d (o .as-opened .is-sound)
 
   pub some-desks : 0 < shelf .n
-  some-desks = omega (arith, desk-sound .desks-least, o .n)
+  some-desks = omega (arith, desk-sound .desks-least, o .as-opened .n)
 
   pub own-last : d .head .turn % shelf .n ≡ p → d .head .turn ≡ length line
   own-last e = by-test (decLt (d .head .turn) (length line))
@@ -41,7 +41,7 @@ module _ {shelf : Shelf} {line : List Sheet} {p : ℕ} {d : Desk} {tray : List �
   near = by-test (decLt (mine .k) (length line))
     where
       here : p < shelf .n
-      here = omega (arith, desk-sound .own-below, o .n, o .own)
+      here = omega (arith, desk-sound .own-below, o .as-opened .n, o .as-opened .own)
 
       mine : Next (shelf .n) p (d .head .turn)
       mine = next (shelf .n) p (d .head .turn) here
@@ -52,7 +52,7 @@ module _ {shelf : Shelf} {line : List Sheet} {p : ℕ} {d : Desk} {tray : List �
 
   -- the desk whose turn it is
   pub turn-desk : turnDesk (d .head) ≡ d .head .turn % shelf .n
-  turn-desk = ap (λ (n : ℕ). d .head .turn % n) (o .n)
+  turn-desk = ap (λ (n : ℕ). d .head .turn % n) (o .as-opened .n)
 
   pub turn-below : turnDesk (d .head) < shelf .n
   turn-below = rw turn-desk (mod-lt (d .head .turn) some-desks)

@@ -89,7 +89,7 @@ module _ {shelf : Shelf} {s : State} (o : InOrder shelf s) (p : ℕ) (here : p <
   -- where it does not, the read goes on waiting, and the turn is not yet the desk's own
   not-yet : readEnds (d .head) ≡ false → (then .head .wait ≡ cell + 1) × ((d .head .turn + 1) % shelf .n ≢ p)
   not-yet e =
-      (rw e w, λ own. false≢true (sym e ∙ rw (ne-eqb (d .head .wait) 0 (λ z. omega (arith, w, z)), eq-eqb ((d .head .turn + 1) % d .head .n) (d .head .own) (rw (o .desks p here .n, o .desks p here .own) own))))
+      (rw e w, λ own. false≢true (sym e ∙ rw (ne-eqb (d .head .wait) 0 (λ z. omega (arith, w, z)), eq-eqb ((d .head .turn + 1) % d .head .n) (d .head .own) (rw (o .desks p here .as-opened .n, o .desks p here .as-opened .own) own))))
 
 -- ---- a list of calls
 
