@@ -15,8 +15,12 @@ use Rattle.answer.specs.Promises.{this, later}
 use Rattle.answer.proofs.Laws.{refused-if, refused-only-if, answered-only-if}
 use Rattle.layout.specs.Layout.{trailerIn}
 use Rattle.sheet.proofs.Laws.Good.{good-trailer-is-fair}
+use Rattle.sound.specs.Head.{readWaits, waitCell}
 use Rattle.desk.specs.Answers.{held, stored, Value}
 use Rattle.desk.specs.Calls.{sound, lastTurn, trayFits, sendRules, sendOf, deliverRules, deliverOf, takeRules, takeOf, writeRules, writeOf, readRules, readOf}
+use Rattle.desk.specs.declared.Desk.{Desk}
+use Rattle.desk.proofs.Laws.Allowed.{take-allows}
+use Rattle.keeping.proofs.Laws.Rules.{never-given}
 use Rattle.runs.specs.Calls.{document01, delivers, Call, takes}
 use Rattle.runs.specs.Run.{Shelf, State, sheetNo, made, after, Possible}
 use Rattle.runs.specs.TurnRules.{turnOf, ReadWaits}
@@ -26,10 +30,6 @@ use Rattle.runs.proofs.InOrder.{stays-in-order}
 use Rattle.runs.proofs.Laws.Never.{tray-fits, same-shelf}
 use Rattle.runs.proofs.Laws.Taken.{never-back}
 use Rattle.runs.proofs.Laws.Going.{going}
-use Rattle.keeping.proofs.Laws.Rules.{never-given}
-use Rattle.sound.specs.Head.{readWaits, waitCell}
-use Rattle.desk.specs.declared.Desk.{Desk}
-use Rattle.desk.proofs.Laws.Allowed.{take-allows}
 use Rattle.runs.proofs.Laws.Steps.{takenBy, step}
 use Rattle.runs.proofs.Laws.Waiting.{Passes, as-it-was, by-take, passes}
 

@@ -8,9 +8,11 @@ use mathlib.Core.List.{List, [], _∷_, _++_}
 use native.Mathlib.Omega.{arith}
 use native.Mathlib.Nat.{mod-lt}
 use native.Mathlib.Numerals.{add-one}
+use native.Mathlib.Decide.{ℕ-discrete}
 use lib.ListN.{replicate, length-replicate}
 use borrow.Author.Tests.{eq-eqb, ne-eqb}
 use Rattle.answer.specs.Answer.{answered}
+use Rattle.sound.specs.Head.{turnDesk}
 use Rattle.desk.specs.declared.Desk.{Desk}
 use Rattle.desk.specs.Answers.{sent}
 use Rattle.desk.specs.Calls.{lastTurn, openOf, sendOf}
@@ -27,8 +29,6 @@ use Rattle.runs.proofs.Laws.Steps.{own-record, other-record}
 use Rattle.runs.proofs.Laws.Order.{own-last, turn-desk}
 use Rattle.runs.proofs.Laws.Shelves.{sized}
 use Rattle.runs.proofs.Laws.Going.{can-send, can-take}
-use native.Mathlib.Decide.{ℕ-discrete}
-use Rattle.sound.specs.Head.{turnDesk}
 use Rattle.runs.proofs.AtTheEnd.{nothing-breaks}
 
 -- the calls so far bring both desks to a turn number
