@@ -28,7 +28,7 @@ fn byte_at(tray: &[u8], i: usize) -> u8
 }
 
 // The first two bytes of the place of desk q: the length of the sheet in it.
-fn length_at(tray: &[u8], q: u8) -> u16
+pub fn length_at(tray: &[u8], q: u8) -> u16
     ensures { λ r. ⌜ r ≡ lengthAt (now (tray .entry)) q ⌝ }
 {
     let at = 398 * (q as usize);

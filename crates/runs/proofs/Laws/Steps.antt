@@ -3,6 +3,7 @@
 --   put-same, put-other, put-own             a state with one desk's record, or tray, replaced
 --   deskOf, own-record, other-record         whose call it is: that desk's next record, and that the others keep theirs
 --   rulesOf, withDesk, sheetBy, takenBy      a call's rules; a state, a sheet and an answer that the cases speak of
+--   by-call                                  what is so of a refused call, and of one that no rule applies to, is so of a call
 --   Step, step                               the cases, and that each call is one of them
 -- Assumes nothing.
 use Prim.Native.Nat.{ℕ, _+_, _*_}
@@ -140,7 +141,7 @@ by-rules (r ∷ rs) = by-test (by-rules rs) (r .applies) refl
     by-test (inr other) false e = inr (other .0, later e (other .1))
 
 -- a call with these rules, by what it comes to
-by-call : (P : Done → Type 0) (rules : List Rule) (d : Desk) (lent : List ℕ) (v : Value) (d′ : Desk) (lent′ : List ℕ)
+pub by-call : (P : Done → Type 0) (rules : List Rule) (d : Desk) (lent : List ℕ) (v : Value) (d′ : Desk) (lent′ : List ℕ)
     → ((k : ℕ) → First k rules → P (record { answer = refused k; desk = d; lent = lent }))
     → (Silent rules → P (record { answer = answered v; desk = d′; lent = lent′ }))
     → P (call rules d lent v d′ lent′)

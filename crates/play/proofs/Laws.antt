@@ -1,0 +1,7 @@
+pub mod Latest
+pub mod Making
+pub mod Trays
+pub mod Standing
+pub mod Running
+pub mod Playing
+pub mod Whole

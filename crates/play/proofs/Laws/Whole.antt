@@ -1,0 +1,202 @@
+-- What `play_shelf` and `play` know at each return (src/lib.rt), and that it is what `printed` says (specs/Rounds.antt).
+--   modes                             a set for `search`: `mode_in_force`
+--   mode-most, can-run, shelf-played  `play_shelf`
+--   plays                             a set for `search`: `play`
+-- Assumes nothing.
+use Prim.Native.Nat.{ℕ, _+_, _*_, _-_, _<_, _≤_}
+use mathlib.Core.Path.{_≡_, refl, sym, ap, _∙_, subst}
+use mathlib.Core.Bool.{Bool, true, false, cond, _||_}
+use mathlib.Core.List.{List, [], _∷_, _++_}
+use mathlib.Core.Option.{Option, none, some}
+use native.Mathlib.Omega.{arith}
+use lib.Dec.{eqb, ltb}
+use lib.ListN.{length, take, drop, length-append}
+use lib.Seq.{length-take-le}
+use borrow.Author.Tests.{ltb-false, eq-eqb, ne-eqb, le-leb}
+use Rattle.laying.specs.Laying.{laidOver}
+use Rattle.laying.proofs.Laws.{laid-behind}
+use Rattle.tray.proofs.Laws.Parts.{laid-long}
+use Rattle.desk.specs.Answers.{opened, Done}
+use Rattle.desk.specs.Calls.{modeFor, openRules, blankDesk, freshHead, openOf}
+use Rattle.desk.proofs.Laws.Allowed.{OpenAllowed, open-allows}
+use Rattle.runs.proofs.Laws.Steps.{by-call}
+use Rattle.text.specs.Text.{text}
+use Rattle.text.specs.Parts.{firstPart, lineFeed}
+use Rattle.schedule.specs.Lines.{Line, ended, cut, linesOf}
+use Rattle.schedule.specs.Start.{Start, startIn, saidStart}
+use Rattle.schedule.specs.declared.Start as declared
+use Rattle.schedule.specs.declared.Start.the-variants as cases
+use Rattle.schedule.proofs.Laws.Lines.{no-lines}
+use Rattle.printing.specs.Printing.{Wrote, wrote, headerText}
+use Rattle.play.specs.Rounds.{tooLong, isAnswered, opens, badStart, runText, linesText, printed, Prints}
+use Rattle.play.specs.Parts.{Runs, runOf, Plays, shelfText}
+use Rattle.play.proofs.Laws.Playing.{ended-here, cut-here, line-laid, line-end}
+
+-- ---- the mode
+
+pub mode-default : (mode : ℕ) → mode ≡ 0 → 2 ≡ modeFor mode
+mode-default mode e = sym (ap (λ (t : Bool). cond t 2 mode) (eq-eqb mode 0 e))
+
+pub mode-said : (mode : ℕ) → (mode ≡ 0 → ⊥) → mode ≡ modeFor mode
+mode-said mode e = sym (ap (λ (t : Bool). cond t 2 mode) (ne-eqb mode 0 e))
+
+pub ruleset modes = (mode-default, mode-said)
+
+-- ---- a shelf whose desks can be opened
+
+false-is-not-true : false ≡ true → ⊥
+false-is-not-true e = subst is-false e tt
+  where
+    is-false : Bool → Type 0
+    is-false false = Unit {0}
+    is-false true = ⊥
+
+or-split : (a b : Bool) → a || b ≡ false → (a ≡ false) × (b ≡ false)
+or-split true b e = absurd (false-is-not-true (sym e))
+or-split false b e = (refl, e)
+
+pub opens-says : (n m mode : ℕ) → opens (record { n = n; m = m; mode = mode }) ≡ true → OpenAllowed n m 0 mode
+unfolding openOf
+opens-says n m mode =
+    by-call (λ (x : Done). isAnswered (x .answer) ≡ true → OpenAllowed n m 0 mode) (openRules n m 0 mode) (blankDesk (freshHead 0 0 0 0)) [] opened
+    (blankDesk (freshHead n m 0 (modeFor mode)))
+    []
+    (λ k first e. absurd (false-is-not-true e))
+    (λ silent e. open-allows n m 0 mode silent)
+
+module _ (input : List ℕ) (from n m mode : ℕ) (out : List ℕ) (asked : Plays input from (record { n = n; m = m; mode = mode }) out) where
+  pub mode-most : mode ≤ 3
+  mode-most = opens-says n m mode (asked .can-open) .mode-most
+
+  module _ (force : ℕ) (force-is : force ≡ modeFor mode) (out₁ : List ℕ) (at : ℕ) (put : record { bytes = out₁; end = at } ≡ wrote out 0 (headerText n m force)) (near : at ≤ 0 + 64) where
+    room : 0 + 64 ≤ length out
+    room = omega (arith, asked .long)
+
+    header-laid : out₁ ≡ laidOver out 0 (headerText n m force)
+    header-laid = line-laid out 0 (headerText n m force) out₁ at put room
+
+    header-end : at ≡ 0 + length (headerText n m force)
+    header-end = line-end out 0 (headerText n m force) out₁ at put room
+
+    pub can-run : Runs input from n out₁ at
+    can-run =
+        let allowed = opens-says n m mode (asked .can-open) in
+        record {
+          some-desks = allowed .desks-least;
+          few-desks = allowed .desks-most;
+          few-bytes = asked .few-bytes;
+          within-input = asked .within-input;
+          few-lines = asked .few-lines;
+          room = omega (arith, near, asked .few-lines, asked .long, ap (λ (l : List ℕ). length l) header-laid ∙ laid-long out 0 (headerText n m force));
+        }
+
+    module _ (out₂ : List ℕ) (r : ℕ) (ran : out₂ ≡ laidOver out₁ at (runOf input from n m mode)) (size : r ≡ at + length (runOf input from n m mode)) (most : r ≤ length out₁) where
+      abbrev header : List ℕ
+      header = headerText n m force
+
+      abbrev steps : List ℕ
+      steps = runOf input from n m mode
+
+      in-room : r ≤ 64064
+      in-room = omega (arith, most, asked .long, ap (λ (l : List ℕ). length l) header-laid ∙ laid-long out 0 header)
+
+      r-is : r ≡ length (header ++ steps)
+      r-is = omega (arith, size, header-end, length-append header steps)
+
+      pub shelf-played : Prints (shelfText input from (record { n = n; m = m; mode = mode })) out out₂ r
+      shelf-played =
+          record {
+            bytes =
+                ran
+                ∙ ap (λ (l : List ℕ). laidOver l at steps) header-laid
+                ∙ ap (λ (z : ℕ). laidOver (laidOver out 0 header) z steps) header-end
+                ∙ laid-behind out 0 header steps (omega (arith, header-end, size, in-room, asked .long))
+                ∙ ap (λ (f : ℕ). laidOver out 0 (headerText n m f ++ steps)) force-is;
+            long = r-is ∙ ap (λ (f : ℕ). length (headerText n m f ++ steps)) force-is;
+            room = omega (arith, in-room, asked .long, ap (λ (l : List ℕ). length l) (ran ∙ ap (λ (l : List ℕ). laidOver l at steps) header-laid) ∙ laid-long (laidOver out 0 header) at steps ∙ laid-long out 0 header);
+          }
+
+-- ---- the whole
+
+module _ (input out : List ℕ) (long : length out ≡ 64064) where
+  by-text : (t : List ℕ) → printed input ≡ t → (out′ : List ℕ) (r : ℕ) → Prints t out out′ r → Prints (printed input) out out′ r
+  by-text t e out′ r prints = subst (λ (l : List ℕ). Prints l out out′ r) (sym e) prints
+
+  -- a short line, alone
+  alone : {t : List ℕ} → length t ≤ 10 → (out′ : List ℕ) → out′ ≡ laidOver out 0 t → (r : ℕ) → r ≡ length t → Prints t out out′ r
+  alone {t} short out′ is r size = record { bytes = is; long = size; room = omega (arith, long, ap (λ (l : List ℕ). length l) is ∙ laid-long out 0 t) }
+
+  module _ (test : Bool) (test-is : test ≡ tooLong input) where
+    pub played-long : test ≡ true → (out′ : List ℕ) → out′ ≡ laidOver out 0 (text "too long\n") → (r : ℕ) → r ≡ length (text "too long\n") → Prints (printed input) out out′ r
+    unfolding printed
+    played-long on out′ is r size = by-text (text "too long\n") (ap (λ (b : Bool). cond b (text "too long\n") (linesText (linesOf input))) (sym test-is ∙ on)) out′ r (alone (omega arith) out′ is r size)
+
+    module _ (off : test ≡ false) where
+      by-lines : printed input ≡ linesText (linesOf input)
+      unfolding printed
+      by-lines = ap (λ (b : Bool). cond b (text "too long\n") (linesText (linesOf input))) (sym test-is ∙ off)
+
+      bad-start : printed input ≡ badStart → (out′ : List ℕ) → out′ ≡ laidOver out 0 (text "bad start\n") → (r : ℕ) → r ≡ length (text "bad start\n") → Prints (printed input) out out′ r
+      bad-start e out′ is r size = by-text badStart e out′ r (alone (omega arith) out′ is r size)
+
+      few-bytes : length input ≤ 16384
+      unfolding tooLong
+      few-bytes = ltb-false 16384 (length input) (or-split (ltb 16384 (length input)) (ltb 1001 (length (linesOf input))) (sym test-is ∙ off) .0)
+
+      few-lines : length (linesOf input) ≤ 1001
+      unfolding tooLong
+      few-lines = ltb-false 1001 (length (linesOf input)) (or-split (ltb 16384 (length input)) (ltb 1001 (length (linesOf input))) (sym test-is ∙ off) .1)
+
+      module _ (end : ℕ) (ends : end ≡ 0 + length (firstPart lineFeed (drop 0 input))) where
+        pub played-cut : length input ≤ end → (out′ : List ℕ) → out′ ≡ laidOver out 0 (text "bad start\n") → (r : ℕ) → r ≡ length (text "bad start\n") → Prints (printed input) out out′ r
+        unfolding startIn
+        played-cut h = bad-start (by-lines ∙ no-start input refl)
+          where
+            no-start : (l : List ℕ) → input ≡ l → linesText (linesOf input) ≡ badStart
+            no-start [] e = ap linesText (ap linesOf e ∙ no-lines)
+            no-start (b ∷ bs) e = ap linesText (cut-here 1 input 0 end (omega (arith, ap (λ (l : List ℕ). length l) e)) ends h)
+
+        module _ (h : end < length input) where
+          first-line : linesOf input ≡ ended (take end input) ∷ linesOf (drop (end + 1) input)
+          first-line =
+              let all : end - 0 ≡ end = omega arith in
+              ended-here 1 input 0 end (omega arith) ends h ∙ ap (λ (z : ℕ). ended (take z input) ∷ linesOf (drop (end + 1) input)) all
+
+          module _ (s : declared.Start) (says : saidStart s ≡ startIn (ended (take end input))) where
+            by-start : printed input ≡ runText (saidStart s) (linesOf (drop (end + 1) input))
+            by-start = by-lines ∙ ap linesText first-line ∙ ap (λ (o : Option Start). runText o (linesOf (drop (end + 1) input))) (sym says)
+
+            pub played-bad : s ≡ cases.Bad → (out′ : List ℕ) → out′ ≡ laidOver out 0 (text "bad start\n") → (r : ℕ) → r ≡ length (text "bad start\n") → Prints (printed input) out out′ r
+            played-bad e = bad-start (by-start ∙ ap (λ (x : declared.Start). runText (saidStart x) (linesOf (drop (end + 1) input))) e)
+
+            module _ (n m mode : ℕ) (is : s ≡ cases.Shelf n m mode) (opening : Bool) (opening-is : opening ≡ opens (record { n = n; m = m; mode = mode })) where
+              by-opening : printed input ≡ cond opening (shelfText input (end + 1) (record { n = n; m = m; mode = mode })) badStart
+              by-opening =
+                  by-start
+                  ∙ ap (λ (x : declared.Start). runText (saidStart x) (linesOf (drop (end + 1) input))) is
+                  ∙ ap (λ (b : Bool). cond b (shelfText input (end + 1) (record { n = n; m = m; mode = mode })) badStart) (sym opening-is)
+
+              pub played-none : opening ≡ false → (out′ : List ℕ) → out′ ≡ laidOver out 0 (text "bad start\n") → (r : ℕ) → r ≡ length (text "bad start\n") → Prints (printed input) out out′ r
+              played-none e = bad-start (by-opening ∙ ap (λ (b : Bool). cond b (shelfText input (end + 1) (record { n = n; m = m; mode = mode })) badStart) e)
+
+              module _ (on : opening ≡ true) where
+                pub can-play : Plays input (end + 1) (record { n = n; m = m; mode = mode }) out
+                can-play =
+                    record {
+                      can-open = sym opening-is ∙ on;
+                      few-bytes = few-bytes;
+                      within-input = omega arith;
+                      few-lines = omega (arith, few-lines, ap (λ (ls : List Line). length ls) first-line);
+                      long = long;
+                    }
+
+                pub played-shelf : (out′ : List ℕ) (r : ℕ) → Prints (shelfText input (end + 1) (record { n = n; m = m; mode = mode })) out out′ r → Prints (printed input) out out′ r
+                played-shelf =
+                    by-text (shelfText input (end + 1) (record { n = n; m = m; mode = mode }))
+                    (by-opening ∙ ap (λ (b : Bool). cond b (shelfText input (end + 1) (record { n = n; m = m; mode = mode })) badStart) on)
+
+-- the first line, as it is lent
+pub first-long : (input : List ℕ) (end : ℕ) → end < length input → end ≡ length (take end input)
+first-long input end h = sym (length-take-le end input (omega arith))
+
+pub ruleset plays = (first-long, played-long, played-cut, played-bad, played-none, can-play, played-shelf)

@@ -1,0 +1,174 @@
+-- What the contracts of the private functions cite: a step, made on a desk's record, its tray, and the places in which each desk's latest sheet
+-- lies, which are those of a tray. That this is the step of specs/Steps.antt is proved in proofs/Laws/Standing.antt.
+-- Assumes nothing.
+use Prim.Native.Nat.{ℕ, _+_, _*_, _-_, _<_, _≤_}
+use mathlib.Core.Path.{_≡_}
+use mathlib.Core.Bool.{true, cond}
+use mathlib.Core.List.{List, [], _∷_, _++_}
+use mathlib.Core.Option.{Option, none}
+use lib.Dec.{ltb}
+use lib.ListN.{length, getD, take, drop, replicate}
+use Rattle.answer.specs.Answer.{Answer, refused, answered}
+use Rattle.tray.specs.Tray.{lengthAt, free, sheetAt, heldIn}
+use Rattle.desk.specs.declared.Desk.{Desk}
+use Rattle.desk.specs.declared.Outcome.{Outcome}
+use Rattle.desk.specs.Answers.{Value, opened, stored, holds, waits, sent, held, taken, Done, said}
+use Rattle.desk.specs.Calls.{modeFor, openOf, writeOf, readOf, sendOf, deliverOf, takeOf}
+use Rattle.runs.specs.Run.{Sheet, start, sheetLeft}
+use Rattle.acting.specs.declared.Act.{Act}
+use Rattle.acting.specs.declared.Act.the-variants as act
+use Rattle.acting.specs.declared.Step as declared
+use Rattle.acting.specs.Step.{Step}
+use Rattle.acting.specs.Said.{Said, answers, nothingSent, badLine}
+use Rattle.schedule.specs.Lines.{ended, linesOf}
+use Rattle.schedule.specs.Start.{Start}
+use Rattle.schedule.specs.Step.{stepIn}
+use Rattle.play.specs.Steps.{sheetRoom}
+use Rattle.printing.specs.Printing.{headerText}
+use Rattle.play.specs.Rounds.{stepsText, opens}
+
+pub record Making : Type 0 where
+  pub answer : Answer Value
+  pub desk : Desk
+  pub tray : List ℕ
+  pub latest : List ℕ
+
+-- what an outcome of the code comes to, with the lent bytes as they are then
+abbrev pub making : Outcome → List ℕ → List ℕ → Making
+making o tray latest = record { answer = said (o .answer); desk = o .desk; tray = tray; latest = latest }
+
+-- a call that is lent neither
+abbrev pub byCall : Done → List ℕ → List ℕ → Making
+byCall done tray latest = record { answer = done .answer; desk = done .desk; tray = tray; latest = latest }
+
+-- a call that is lent the tray
+abbrev pub byTray : Done → List ℕ → Making
+byTray done latest = byCall done (done .lent) latest
+
+-- how long the sheet is that was sent: "6 bytes each", and "the trailer of 12 bytes"; 0 where none was
+abbrev pub lengthSent : Answer Value → ℕ
+lengthSent (refused k) = 0
+lengthSent (answered opened) = 0
+lengthSent (answered stored) = 0
+lengthSent (answered (holds c)) = 0
+lengthSent (answered waits) = 0
+lengthSent (answered (sent turn entries)) = 6 * entries + 12
+lengthSent (answered held) = 0
+lengthSent (answered (taken turn entries applied waited)) = 0
+
+-- the sheet of desk p, if it sent one, becomes its latest
+abbrev pub latestWith : List ℕ → ℕ → List Sheet → List ℕ
+latestWith latest p [] = latest
+latestWith latest p (x ∷ xs) = heldIn latest p (x .bytes)
+
+abbrev pub bySend : ℕ → Done → List ℕ → List ℕ → Making
+bySend p done tray latest = byCall done tray (latestWith latest p (sheetLeft p (done .answer) (done .lent)))
+
+-- no call: the answer says nothing
+abbrev pub noCall : Desk → List ℕ → List ℕ → Making
+noCall d tray latest = record { answer = answered held; desk = d; tray = tray; latest = latest }
+
+abbrev pub delivered : Desk → ℕ → List ℕ → List ℕ → List ℕ → Making
+delivered d q tray latest kept =
+    cond (free latest q) (noCall d tray kept) (byTray (deliverOf d tray (sheetAt latest q)) kept)
+
+abbrev pub makeOf : Desk → ℕ → Act → List ℕ → List ℕ → Making
+makeOf d p (act.Write cell c) tray latest = byCall (writeOf d cell c) tray latest
+makeOf d p (act.Read cell) tray latest = byCall (readOf d cell) tray latest
+makeOf d p act.Send tray latest = bySend p (sendOf d sheetRoom) tray latest
+makeOf d p (act.Deliver q) tray latest = delivered d q tray latest latest
+makeOf d p act.Take tray latest = byTray (takeOf d tray) latest
+makeOf d p act.Bad tray latest = noCall d tray latest
+
+-- what the step comes to, by its call's answer
+abbrev pub saidFor : Act → List ℕ → Answer Value → Said
+saidFor (act.Write cell c) latest a = answers a
+saidFor (act.Read cell) latest a = answers a
+saidFor act.Send latest a = answers a
+saidFor (act.Deliver q) latest a = cond (free latest q) nothingSent (answers a)
+saidFor act.Take latest a = answers a
+saidFor act.Bad latest a = badLine
+
+-- the place of desk q in `latest` is there, and what it holds is no longer than a sheet
+pub record LatestFit (latest : List ℕ) (q : ℕ) : Type 0 where
+  pub there : 398 * q + 398 ≤ length latest
+  pub most : lengthAt latest q ≤ 396
+
+-- those of all 16 are
+abbrev pub LatestFits : List ℕ → Type 0
+LatestFits latest = (q : ℕ) → q < 16 → LatestFit latest q
+
+-- the sender that an act names is one of n
+abbrev pub SenderThere : ℕ → Act → Type 0
+SenderThere n (act.Write cell c) = Unit {0}
+SenderThere n (act.Read cell) = Unit {0}
+SenderThere n act.Send = Unit {0}
+SenderThere n (act.Deliver q) = q < n
+SenderThere n act.Take = Unit {0}
+SenderThere n act.Bad = Unit {0}
+
+-- what a list of desks has past its end, as Rattle reads an array: zeros, and arrays of nothing. No call reads it
+abbrev pub noDesk : Desk
+noDesk = record { head = record { n = 0; m = 0; own = 0; mode = 0; turn = 0; wait = 0 }; kind = []; day = []; pkind = []; pday = [] }
+
+-- the 16 desks of a run at its start; those from n on are refused, and have records of zeros
+pub record AllOpened (n m mode : ℕ) (ds : List Desk) : Type 0 where
+  pub long : length ds ≡ 16
+  pub each : (p : ℕ) → p < 16 → getD ds p noDesk ≡ openOf n m p mode .desk
+
+-- "clear trays", those of 16 desks; and a place for each desk's latest sheet
+unfoldable pub clearTrays : List ℕ
+clearTrays = replicate 101888 0
+
+unfoldable pub noSheets : List ℕ
+noSheets = replicate 6368 0
+
+-- the step of the line from `from` to `end`, where a line feed stands; none, where the input ends there
+abbrev pub stepAt : ℕ → List ℕ → ℕ → ℕ → Option Step
+stepAt n input from end = cond (ltb end (length input)) (stepIn n (ended (take (end - from) (drop from input)))) none
+
+-- whose step it is; desk 0's, where nothing is done
+abbrev pub deskBy : ℕ → Act → ℕ
+deskBy p (act.Write cell c) = p
+deskBy p (act.Read cell) = p
+deskBy p act.Send = p
+deskBy p (act.Deliver q) = p
+deskBy p act.Take = p
+deskBy p act.Bad = 0
+
+abbrev pub deskFor : declared.Step → ℕ
+deskFor s = deskBy (s .desk) (s .act)
+
+-- where the next line starts; the end of the input, where the run ends
+abbrev pub nextAt : Act → ℕ → ℕ → ℕ
+nextAt (act.Write cell c) end size = end + 1
+nextAt (act.Read cell) end size = end + 1
+nextAt act.Send end size = end + 1
+nextAt (act.Deliver q) end size = end + 1
+nextAt act.Take end size = end + 1
+nextAt act.Bad end size = size
+
+-- what is asked of `run`: desks that can be opened, no more bytes than 16,384, lines from `from` on, no more than 1,000, and room for them
+pub record Runs (input : List ℕ) (from n : ℕ) (out : List ℕ) (at : ℕ) : Type 0 where
+  pub some-desks : 1 ≤ n
+  pub few-desks : n ≤ 16
+  pub few-bytes : length input ≤ 16384
+  pub within-input : from ≤ length input
+  pub few-lines : length (linesOf (drop from input)) ≤ 1000
+  pub room : at + 64 * length (linesOf (drop from input)) ≤ length out
+
+-- the text of the steps from `from` on
+abbrev pub runOf : List ℕ → (from n m mode : ℕ) → List ℕ
+runOf input from n m mode = stepsText n 1 (start (record { n = n; m = m; mode = λ p. mode })) (linesOf (drop from input))
+
+-- what is asked of `play_shelf`: desks that can be opened, and lines from `from` on, no more than 1,000 of them and no more bytes than 16,384
+pub record Plays (input : List ℕ) (from : ℕ) (x : Start) (out : List ℕ) : Type 0 where
+  pub can-open : opens x ≡ true
+  pub few-bytes : length input ≤ 16384
+  pub within-input : from ≤ length input
+  pub few-lines : length (linesOf (drop from input)) ≤ 1000
+  pub long : length out ≡ 64064
+
+-- the header, and the text of the steps from `from` on
+abbrev pub shelfText : List ℕ → ℕ → Start → List ℕ
+shelfText input from x = headerText (x .n) (x .m) (modeFor (x .mode)) ++ runOf input from (x .n) (x .m) (x .mode)

@@ -1,0 +1,79 @@
+-- 01, "The program `rounds`": what it prints, whole, for every input.
+-- Assumes nothing.
+use Prim.Native.Nat.{ℕ, _+_, _≤_}
+use mathlib.Core.Path.{_≡_}
+use mathlib.Core.Bool.{Bool, true, false, cond, _||_}
+use mathlib.Core.List.{List, [], _∷_, _++_}
+use mathlib.Core.Option.{Option, none, some}
+use lib.Dec.{ltb}
+use lib.ListN.{length}
+use Rattle.answer.specs.Answer.{Answer, refused, answered}
+use Rattle.laying.specs.Laying.{laidOver}
+use Rattle.desk.specs.Answers.{Value}
+use Rattle.desk.specs.Calls.{modeFor, openOf}
+use Rattle.runs.specs.Run.{Shelf, State, start}
+use Rattle.text.specs.Text.{text}
+use Rattle.acting.specs.Step.{Step}
+use Rattle.acting.specs.Said.{badLine}
+use Rattle.schedule.specs.Lines.{Line, linesOf}
+use Rattle.schedule.specs.Start.{Start, startIn}
+use Rattle.schedule.specs.Step.{stepIn}
+use Rattle.printing.specs.Printing.{lineText, headerText}
+use Rattle.play.specs.Steps.{saidOf, afterStep}
+
+-- "16,384 bytes and 1,000 steps (lines after the first) at most"
+unfoldable pub tooLong : List ℕ → Bool
+tooLong input = ltb 16384 (length input) || ltb 1001 (length (linesOf input))
+
+-- ---- the steps
+
+-- a step's line, and what the rest prints; "A line of another form, .. prints its step number and `bad line` and ends the run"
+abbrev pub stepText : ℕ → State → Option Step → (State → List ℕ) → List ℕ
+stepText number s none rest = lineText number badLine
+stepText number s (some step) rest = lineText number (saidOf s step) ++ rest (afterStep s step)
+
+-- the steps from this number on, of n desks that have come to this state
+unfoldable pub stepsText : (n number : ℕ) → State → List Line → List ℕ
+stepsText n number s [] = []
+stepsText n number s (line ∷ lines) = stepText number s (stepIn n line) (λ t. stepsText n (number + 1) t lines)
+
+-- ---- the start
+
+-- all desks have the mode of line 1
+abbrev pub shelfOf : Start → Shelf
+shelfOf x = record { n = x .n; m = x .m; mode = λ p. x .mode }
+
+abbrev pub isAnswered : Answer Value → Bool
+isAnswered (refused number) = false
+isAnswered (answered v) = true
+
+-- its desks can be opened; the first of them can exactly if all can (`FirstAsAll`, specs/Promises.antt)
+abbrev pub opens : Start → Bool
+opens x = isAnswered (openOf (x .n) (x .m) 0 (x .mode) .answer)
+
+abbrev pub badStart : List ℕ
+badStart = text "bad start\n"
+
+-- the header, and the steps; "if it has another form or a desk can't be opened, `bad start` alone"
+abbrev pub runText : Option Start → List Line → List ℕ
+runText none lines = badStart
+runText (some x) lines = cond (opens x) (headerText (x .n) (x .m) (modeFor (x .mode)) ++ stepsText (x .n) 1 (start (shelfOf x)) lines) badStart
+
+-- an input without a line has no line 1 of that form
+abbrev pub linesText : List Line → List ℕ
+linesText [] = badStart
+linesText (line ∷ lines) = runText (startIn line) lines
+
+-- ---- whole
+
+-- "else it prints `too long` alone, before any other test"
+unfoldable pub printed : List ℕ → List ℕ
+printed input = cond (tooLong input) (text "too long\n") (linesText (linesOf input))
+
+-- ---- what is lent
+
+-- this text at the front of a buffer, the bytes behind it as they were; how long it is; and that it has room
+pub record Prints (line out out′ : List ℕ) (size : ℕ) : Type 0 where
+  pub bytes : out′ ≡ laidOver out 0 line
+  pub long : size ≡ length line
+  pub room : size ≤ length out′

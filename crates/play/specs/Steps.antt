@@ -1,0 +1,57 @@
+-- A schedule's steps as calls of the run of demand 3 (crates/runs/specs/Run.antt), with document 01's definitions. 01, "The program `rounds`":
+-- "`d` sender receiver (sender's latest sheet, again if wanted)", "`d` before the sender has sent prints `nothing sent`. `s` lends 396 bytes."
+-- Assumes nothing.
+use Prim.Native.Nat.{ℕ, suc}
+use mathlib.Core.Bool.{cond}
+use mathlib.Core.List.{List, [], _∷_}
+use mathlib.Core.Option.{Option, none, some}
+use lib.Dec.{eqb}
+use lib.ListN.{replicate}
+use Rattle.runs.specs.Calls.{Call, document01}
+use Rattle.runs.specs.Calls as calls
+use Rattle.runs.specs.Run.{Sheet, State, made, after}
+use Rattle.acting.specs.Step.{Step, Act, writes, reads, sends, delivers, takes}
+use Rattle.acting.specs.Said.{Said, answers, nothingSent}
+
+-- which sheet of the line is this sender's latest: of those from k on, and if there is none, the one found so far
+unfoldable pub latestFrom : ℕ → ℕ → Option ℕ → List Sheet → Option ℕ
+latestFrom sender k found [] = found
+latestFrom sender k found (x ∷ xs) = latestFrom sender (suc k) (cond (eqb (x .from) sender) (some k) found) xs
+
+unfoldable pub latestOf : ℕ → List Sheet → Option ℕ
+latestOf sender line = latestFrom sender 0 none line
+
+-- "sender's latest sheet"
+abbrev pub deliversLatest : ℕ → Option ℕ → Option Call
+deliversLatest p none = none
+deliversLatest p (some k) = some (calls.delivers p k)
+
+-- "`s` lends 396 bytes."
+unfoldable pub sheetRoom : List ℕ
+sheetRoom = replicate 396 0
+
+-- the call that a step is; `d` is none before the sender has sent
+abbrev pub callBy : State → ℕ → Act → Option Call
+callBy s p (writes cell c) = some (calls.writes p cell c)
+callBy s p (reads cell) = some (calls.reads p cell)
+callBy s p sends = some (calls.sends p sheetRoom)
+callBy s p (delivers sender) = deliversLatest p (latestOf sender (s .line))
+callBy s p takes = some (calls.takes p)
+
+abbrev pub callOf : State → Step → Option Call
+callOf s step = callBy s (step .desk) (step .act)
+
+-- what comes of it, and what there is then
+abbrev pub saidBy : State → Option Call → Said
+saidBy s none = nothingSent
+saidBy s (some c) = answers (made document01 s c .answer)
+
+abbrev pub afterBy : State → Option Call → State
+afterBy s none = s
+afterBy s (some c) = after document01 s c
+
+unfoldable pub saidOf : State → Step → Said
+saidOf s step = saidBy s (callOf s step)
+
+unfoldable pub afterStep : State → Step → State
+afterStep s step = afterBy s (callOf s step)

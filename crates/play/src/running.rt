@@ -1,0 +1,135 @@
+// The steps of a run, line by line.
+ghost use mathlib.Core.Path.{_≡_};
+ghost use Prim.Native.Nat.{_+_, _<_, _≤_};
+ghost use lib.ListN.{length};
+ghost use Rattle.laying.specs.Laying.{laidOver};
+ghost use Rattle.acting.specs.Step.{saidStep};
+ghost use Rattle.play.specs.Parts.{AllOpened, clearTrays, noSheets, stepAt, deskFor, nextAt, Runs, runOf};
+use crate::making;
+use acting::Act;
+use acting::Step;
+use desk::Desk;
+
+// "Open all desks of a shelf once"; what is behind the shelf's desks in the array is refused, and never used.
+fn opened(n: u32, m: u32, mode: u32) -> [Desk; 16]
+    ensures { λ r. ⌜ AllOpened n m mode r ⌝ }
+{
+    let o = Desk::open(n, m, 0, mode);
+    let d = o.desk;
+    let mut ds = [d; 16];
+    let mut p: u32 = 1;
+    while p < 16 {
+        let o = Desk::open(n, m, p, mode);
+        let d = o.desk;
+        ds[p as usize] = d;
+        p += 1;
+    }
+    ds
+}
+
+// "clear trays": 398 bytes for each of 16 desks, 16 times. The first 398 × n × n bytes are those of n desks.
+fn clear_trays() -> [u8; 101888]
+    ensures { λ r. ⌜ r ≡ clearTrays ⌝ }
+{
+    [0u8; 101888]
+}
+
+// A place for each desk's latest sheet; none has one.
+fn no_sheets() -> [u8; 6368]
+    ensures { λ r. ⌜ r ≡ noSheets ⌝ }
+{
+    [0u8; 6368]
+}
+
+// The step of the line from `from` to `end`; a line that no line feed ends is of another form.
+fn step_at(input: &[u8], from: usize, end: usize, n: u32) -> Step
+    requires { ⌜ from ≤ end ⌝ }
+    ensures { λ r. ⌜ saidStep r ≡ stepAt n (now (input .entry)) from end ⌝ }
+{
+    if input.len() <= end {
+        return Step {
+            desk: 0,
+            act: Act::Bad,
+        };
+    }
+    schedule::step_in(&input[from..end], n)
+}
+
+// Whose step it is; desk 0's, where a line is of another form and nothing is done.
+fn desk_of(step: Step) -> u32
+    ensures { λ r. ⌜ r ≡ deskFor step ⌝ }
+{
+    let desk = step.desk;
+    let act = step.act;
+    match act {
+        Act::Write {
+            cell: _,
+            content: _,
+        } => desk,
+        Act::Read { cell: _ } => desk,
+        Act::Send => desk,
+        Act::Deliver { sender: _ } => desk,
+        Act::Take => desk,
+        Act::Bad => 0,
+    }
+}
+
+// Where the next line starts: nowhere, behind one of another form.
+fn next(act: Act, end: usize, size: usize) -> usize
+    requires { ⌜ end < 18446744073709551615 ⌝ }
+    ensures { λ r. ⌜ r ≡ nextAt act end size ⌝ }
+{
+    match act {
+        Act::Write {
+            cell: _,
+            content: _,
+        } => end + 1,
+        Act::Read { cell: _ } => end + 1,
+        Act::Send => end + 1,
+        Act::Deliver { sender: _ } => end + 1,
+        Act::Take => end + 1,
+        Act::Bad => size,
+    }
+}
+
+// Plays the lines from `from` on, and prints from `at` on; answers where the text ends.
+pub(crate) fn run(
+    input: &[u8],
+    from: usize,
+    n: u32,
+    m: u32,
+    mode: u32,
+    out: &mut [u8],
+    at: usize,
+) -> usize
+    requires { ⌜ Runs (now input) from n (now out) at ⌝ }
+    ensures { λ _. ⌜ now (out .exit) ≡ laidOver (now (out .entry)) at (runOf (now (input .entry)) from n m mode) ⌝ }
+    ensures { λ r. ⌜ r ≡ at + length (runOf (now (input .entry)) from n m mode) ⌝ }
+    ensures { λ r. ⌜ r ≤ length (now (out .entry)) ⌝ }
+{
+    let mut ds = opened(n, m, mode);
+    let mut trays = clear_trays();
+    let mut latest = no_sheets();
+    let size = 398 * (n as usize);
+    let mut i = from;
+    let mut w = at;
+    let mut k = 1;
+    while i < input.len() {
+        let end = text::part_end(input, i, 10);
+        let step = step_at(input, i, end, n);
+        let act = step.act;
+        let desk = desk_of(step);
+        let p = desk as usize;
+        let d = ds[p];
+        let from = p * size;
+        let o = making::make(d, desk, act, &mut trays[from..from + size], &mut latest);
+        let e = o.desk;
+        ds[p] = e;
+        let a = o.answer;
+        let said = making::said_of(act, &latest, a);
+        w = printing::put_line(out, w, k, said);
+        k += 1;
+        i = next(act, end, input.len());
+    }
+    w
+}

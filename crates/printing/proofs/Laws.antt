@@ -1,0 +1,4 @@
+pub mod Puts
+pub mod Days
+pub mod Words
+pub mod Lines

@@ -1,0 +1,25 @@
+-- `put_number` meets its contract: the digits stand behind the text (the laws `numbers-laid`).
+-- Assumes nothing.
+use borrow.Author.Needs.{needs}
+use Rattle.printing.proofs.Laws.Puts.{numbers-laid}
+use Rattle.printing.proofs.answers.put_number.Statement.{statement}
+use Rattle.printing.proofs.answers.put_number.Tie as tie
+
+put-text-requires : tie.Need-put-text-requires
+put-text-requires c κs = search needs
+
+put-decimal-requires : tie.Need-put-decimal-requires
+put-decimal-requires c κs = search needs
+
+add-result : tie.Need-add-result
+add-result c = search (numbers-laid, needs)
+
+same-length : tie.Need-same-length
+same-length c = search needs
+
+returns : tie.Need-returns
+returns c = search (numbers-laid, needs)
+
+pub put-number-spec : {M : Type 1} → statement M
+put-number-spec =
+    tie.close (tie.spec put-text-requires put-decimal-requires add-result same-length returns)

@@ -1,0 +1,44 @@
+// What `rounds` prints: the header, and a line for each step. 01, "The program `rounds`".
+//
+// A line has at most 64 bytes. It is laid into a lent buffer from `at` on, where 64 bytes are left, and
+// the answer is where the text goes on; without that room nothing is laid, and the answer is `at`.
+ghost use mathlib.Core.Path.{_≡_};
+ghost use Prim.Native.Nat.{_+_, _≤_};
+ghost use Rattle.acting.specs.Said.{saying};
+ghost use Rattle.printing.specs.Printing.{wrote, lineText, headerText};
+use acting::Said;
+
+mod answers;
+
+// "Header: desks, cells, letter of the mode in force (never `-`)."
+pub fn put_header(out: &mut [u8], at: usize, n: u32, m: u32, mode: u8) -> usize
+    ensures { λ r. ⌜ record { bytes = now (out .exit); end = r } ≡ wrote (now (out .entry)) at (headerText n m mode) ⌝ }
+    ensures { λ r. ⌜ r ≤ at + 64 ⌝ }
+{
+    if out.len() < 64 {
+        return at;
+    }
+    if out.len() - 64 < at {
+        return at;
+    }
+    let at = answers::put_number(out, at, b"desks ", n);
+    let at = answers::put_number(out, at, b" cells ", m);
+    answers::put_mode(out, at, mode)
+}
+
+// "Then step number and answer".
+pub fn put_line(out: &mut [u8], at: usize, number: u32, said: Said) -> usize
+    ensures { λ r. ⌜ record { bytes = now (out .exit); end = r } ≡ wrote (now (out .entry)) at (lineText number (saying said)) ⌝ }
+    ensures { λ r. ⌜ r ≤ at + 64 ⌝ }
+{
+    if out.len() < 64 {
+        return at;
+    }
+    if out.len() - 64 < at {
+        return at;
+    }
+    let at = answers::put_number(out, at, b"", number);
+    let at = answers::put_text(out, at, b" ");
+    let at = answers::put_said(out, at, said);
+    answers::put_text(out, at, b"\n")
+}

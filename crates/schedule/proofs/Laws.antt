@@ -1,0 +1,6 @@
+pub mod Words
+pub mod Contents
+pub mod Lines
+pub mod Start
+pub mod Reading
+pub mod Steps

@@ -1,0 +1,77 @@
+// What a schedule's lines say: how many there are, what the first says of the shelf, and what step a
+// line is. 01, "The program `rounds`".
+//
+// Every function takes every text. What a function here gives back is held to the words of the line
+// (specs/), each of which is read where it lies.
+ghost use mathlib.Core.Bool.{_&&_};
+ghost use mathlib.Core.Path.{_≡_};
+ghost use Prim.Native.Nat.{_<_};
+ghost use lib.ListN.{length};
+ghost use Rattle.acting.specs.Step.{saidStep};
+ghost use Rattle.schedule.specs.Lines.{ended, linesOf};
+ghost use Rattle.schedule.specs.Start.{startIn, saidStart};
+ghost use Rattle.schedule.specs.Step.{stepIn};
+use acting::Act;
+use acting::Step;
+
+mod steps;
+mod words;
+
+// "Line 1: desks, cells, mode letter". The mode is open's: 0 for the default.
+pub enum Start {
+    Shelf { n: u32, m: u32, mode: u32 },
+    // A line of another form.
+    Bad,
+}
+
+// How many lines a text has, with one that no line feed ends.
+pub fn lines_in(input: &[u8]) -> usize
+    ensures { λ r. ⌜ r ≡ length (linesOf (now (input .entry))) ⌝ }
+{
+    let mut count = 0;
+    let mut cut = 0;
+    let mut i = 0;
+    while i < input.len() {
+        let b = input[i];
+        count += (b == 10) as usize;
+        cut = (b != 10) as usize;
+        i += 1;
+    }
+    count + cut
+}
+
+// What a line, without its line feed, says as the first.
+pub fn start_in(line: &[u8]) -> Start
+    ensures { λ r. ⌜ saidStart r ≡ startIn (ended (now (line .entry))) ⌝ }
+{
+    let n = words::number_at(line, 0);
+    let m = words::number_at(line, n.end + 1);
+    let letter = words::letter_at(line, m.end + 1);
+    let mode = words::mode_of(letter.byte);
+    let three = (n.end < line.len()) & (m.end < line.len()) & (line.len() <= letter.end);
+    if three & (n.ok & m.ok & (mode < 4)) {
+        return Start::Shelf {
+            n: n.value,
+            m: m.value,
+            mode: mode,
+        };
+    }
+    Start::Bad
+}
+
+// What a line, without its line feed, says as a step, on a shelf of n desks.
+pub fn step_in(line: &[u8], n: u32) -> Step
+    ensures { λ r. ⌜ saidStep r ≡ stepIn n (ended (now (line .entry))) ⌝ }
+{
+    let first = words::letter_at(line, 0);
+    let letter = first.byte;
+    let from = first.end + 1;
+    match letter {
+        119 => steps::write_in(line, from, n),
+        114 => steps::read_in(line, from, n),
+        115 => steps::act_in(line, from, n, Act::Send),
+        100 => steps::deliver_in(line, from, n),
+        116 => steps::act_in(line, from, n, Act::Take),
+        _ => steps::bad(),
+    }
+}

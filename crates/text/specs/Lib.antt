@@ -1,0 +1,4 @@
+pub mod Text
+pub mod Parts
+pub mod Decimal
+pub mod Leading
