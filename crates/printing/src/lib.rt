@@ -3,22 +3,29 @@
 // A line has at most 64 bytes. It is laid into a lent buffer from `at` on, where 64 bytes are left, and
 // the answer is where the text goes on; without that room nothing is laid, and the answer is `at`.
 ghost use mathlib.Core.Path.{_≡_};
-ghost use Prim.Native.Nat.{_+_, _≤_};
+ghost use Prim.Native.Nat.{_+_, _-_, _≤_};
 ghost use Rattle.acting.specs.Said.{saying};
 ghost use Rattle.printing.specs.Printing.{wrote, lineText, headerText};
 use acting::Said;
 
 mod answers;
 
+// No line is longer.
+const LONGEST: usize = 64;
+
+// How many bytes a buffer of this length has from `at` on.
+fn room(len: usize, at: usize) -> usize
+    ensures { λ r. ⌜ r ≡ len - at ⌝ }
+{
+    if at < len { len - at } else { 0 }
+}
+
 // "Header: desks, cells, letter of the mode in force (never `-`)."
 pub fn put_header(out: &mut [u8], at: usize, n: u32, m: u32, mode: u8) -> usize
     ensures { λ r. ⌜ record { bytes = now (out .exit); end = r } ≡ wrote (now (out .entry)) at (headerText n m mode) ⌝ }
     ensures { λ r. ⌜ r ≤ at + 64 ⌝ }
 {
-    if out.len() < 64 {
-        return at;
-    }
-    if out.len() - 64 < at {
+    if room(out.len(), at) < LONGEST {
         return at;
     }
     let at = answers::put_number(out, at, b"desks ", n);
@@ -31,10 +38,7 @@ pub fn put_line(out: &mut [u8], at: usize, number: u32, said: Said) -> usize
     ensures { λ r. ⌜ record { bytes = now (out .exit); end = r } ≡ wrote (now (out .entry)) at (lineText number (saying said)) ⌝ }
     ensures { λ r. ⌜ r ≤ at + 64 ⌝ }
 {
-    if out.len() < 64 {
-        return at;
-    }
-    if out.len() - 64 < at {
+    if room(out.len(), at) < LONGEST {
         return at;
     }
     let at = answers::put_number(out, at, b"", number);

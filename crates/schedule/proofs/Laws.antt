@@ -4,3 +4,5 @@ pub mod Lines
 pub mod Start
 pub mod Reading
 pub mod Steps
+pub mod Saying
+pub mod Promised

@@ -3,3 +3,4 @@ pub mod Words
 pub mod Start
 pub mod Step
 pub mod Parts
+pub mod Promises

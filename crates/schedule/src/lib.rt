@@ -3,9 +3,7 @@
 //
 // Every function takes every text. What a function here gives back is held to the words of the line
 // (specs/), each of which is read where it lies.
-ghost use mathlib.Core.Bool.{_&&_};
 ghost use mathlib.Core.Path.{_≡_};
-ghost use Prim.Native.Nat.{_<_};
 ghost use lib.ListN.{length};
 ghost use Rattle.acting.specs.Step.{saidStep};
 ghost use Rattle.schedule.specs.Lines.{ended, linesOf};

@@ -2,7 +2,7 @@
 ghost use mathlib.Core.Path.{_≡_};
 ghost use mathlib.Core.Option.{none};
 ghost use Prim.Native.Nat.{_+_, _≤_};
-ghost use lib.ListN.{length, drop};
+ghost use lib.ListN.{length};
 ghost use Rattle.acting.specs.Step.{saidStep};
 ghost use Rattle.schedule.specs.Step.{writeIn, readIn, deliverIn};
 ghost use Rattle.schedule.specs.Parts.{wordsAt, aloneIn};

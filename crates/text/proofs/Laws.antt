@@ -1,3 +1,4 @@
 pub mod Parts
 pub mod Decimal
 pub mod Printed
+pub mod ReadBack

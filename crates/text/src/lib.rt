@@ -2,7 +2,6 @@
 // `rounds`": "Single spaces, decimal without leading zeros".
 //
 // Every function takes every text and every place in it, also one past the end, where there is nothing.
-ghost use mathlib.Core.Bool.{not, _&&_, _||_};
 ghost use mathlib.Core.Path.{_≡_};
 ghost use Prim.Native.Nat.{_+_, _*_, _-_, _≤_, _<_, min};
 ghost use lib.ListN.{length, take, drop};

@@ -3,7 +3,7 @@
 --   puts-within, puts-same       a greater bound; an equal text
 --   puts-of                      the text of a value, from that of the case that the value is
 --   _then_                       a text right behind another is laid with it: two texts are one
---   numbers-laid, counts-laid    sets for `search`: a text with a number of 32 or of 8 bits behind it
+--   numbers-laid                 a set for `search`: a text with a number behind it
 -- Assumes nothing.
 use mathlib.Core.Path.{_≡_, refl, sym, ap, subst, _∙_}
 use mathlib.Core.List.{List, _++_}
@@ -59,27 +59,15 @@ _then_ {b = b} {at = at} {x = x} {y = y} p q =
 
 -- ---- a text with a number behind it
 
-module _ (b : List ℕ) (at : ℕ) (x b₁ : List ℕ) (a₁ k r : ℕ) where
-  pub number-fits : Puts (length x) b at x b₁ a₁ → r ≡ length (decimal k) → at + (length x + 10) ≤ length b → length b < 18446744073709551616 → Fits w64 (a₁ + r)
-  number-fits p many room h = record { fits = omega (arith, decimal-ten k) }
+module _ (b : List ℕ) (at : ℕ) (x b₁ : List ℕ) (a₁ k r most : ℕ) where
+  -- the sum that the code makes does not wrap
+  pub number-fits : Puts (length x) b at x b₁ a₁ → r ≡ length (decimal k) → at + (length x + most) ≤ length b
+      → length (decimal k) ≤ most → length b < 18446744073709551616 → Fits w64 (a₁ + r)
+  number-fits p many room few fits = record { fits = omega arith }
 
-  pub count-fits : Puts (length x) b at x b₁ a₁ → r ≡ length (decimal k) → at + (length x + 3) ≤ length b → length b < 18446744073709551616 → k < 256 → Fits w64 (a₁ + r)
-  count-fits p many room h small = record { fits = omega (arith, decimal-three k small) }
+  pub number-laid : (b₂ : List ℕ) → Puts (length x) b at x b₁ a₁ → b₂ ≡ laidOver b₁ a₁ (decimal k) → r ≡ length (decimal k)
+      → at + (length x + most) ≤ length b → length (decimal k) ≤ most
+      → Puts (length x + most) b at (x ++ decimal k) b₂ (a₁ + r)
+  number-laid b₂ p e many room few = rw many (p then puts most b₁ a₁ (decimal k) b₂ (omega arith) few e)
 
-  module _ (b₂ : List ℕ) where
-    digits-behind : (most : ℕ) → length (decimal k) ≤ most → at + (length x + most) ≤ length b
-        → Puts (length x) b at x b₁ a₁ → b₂ ≡ laidOver b₁ a₁ (decimal k) → r ≡ length (decimal k)
-        → Puts (length x + most) b at (x ++ decimal k) b₂ (a₁ + r)
-    digits-behind most few room p e many = rw many (p then puts most b₁ a₁ (decimal k) b₂ (omega arith) few e)
-
-    pub number-laid : Puts (length x) b at x b₁ a₁ → b₂ ≡ laidOver b₁ a₁ (decimal k) → r ≡ length (decimal k)
-        → at + (length x + 10) ≤ length b → Puts (length x + 10) b at (x ++ decimal k) b₂ (a₁ + r)
-    number-laid p e many room = digits-behind 10 (decimal-ten k) room p e many
-
-    pub count-laid : Puts (length x) b at x b₁ a₁ → b₂ ≡ laidOver b₁ a₁ (decimal k) → r ≡ length (decimal k)
-        → at + (length x + 3) ≤ length b → k < 256 → Puts (length x + 3) b at (x ++ decimal k) b₂ (a₁ + r)
-    count-laid p e many room small = digits-behind 3 (decimal-three k small) room p e many
-
-pub ruleset numbers-laid = (number-fits, number-laid)
-
-pub ruleset counts-laid = (count-fits, count-laid)
+pub ruleset numbers-laid = (number-fits, number-laid, decimal-ten, decimal-three)

@@ -6,14 +6,11 @@ use Rattle.printing.proofs.Laws.Lines.{wrote-none, wrote-whole, header-
 use Rattle.printing.proofs.put_header.Statement.{statement}
 use Rattle.printing.proofs.put_header.Tie as tie
 
+room-requires : tie.Need-room-requires
+room-requires c κs = search needs
+
 returns : tie.Need-returns
 returns c = wrote-none _ _ _ (omega arith)
-
-sub-if2 : tie.Need-sub-if2
-sub-if2 c = search needs
-
-returns-2 : tie.Need-returns-2
-returns-2 c = wrote-none _ _ _ (omega arith)
 
 slice-aggregate-put-number : tie.Need-slice-aggregate-put-number
 slice-aggregate-put-number c = search needs
@@ -33,20 +30,19 @@ put-mode-requires c κs = search needs
 same-length : tie.Need-same-length
 same-length c = search needs
 
-returns-3 : tie.Need-returns-3
-returns-3 c = wrote-whole _ _ _ 41 (omega arith) (omega arith) (search (header-laid, needs))
+returns-2 : tie.Need-returns-2
+returns-2 c = wrote-whole _ _ _ 41 (omega arith) (omega arith) (search (header-laid, needs))
 
 pub put-header-spec : {M : Type 1} → statement M
 put-header-spec =
     tie.close
     (tie.spec
+    room-requires
     returns
-    sub-if2
-    returns-2
     slice-aggregate-put-number
     put-number-requires
     slice-aggregate-put-number-2
     put-number-requires-2
     put-mode-requires
     same-length
-    returns-3)
+    returns-2)

@@ -6,14 +6,11 @@ use Rattle.printing.proofs.Laws.Lines.{wrote-none, wrote-whole, line-la
 use Rattle.printing.proofs.put_line.Statement.{statement}
 use Rattle.printing.proofs.put_line.Tie as tie
 
+room-requires : tie.Need-room-requires
+room-requires c κs = search needs
+
 returns : tie.Need-returns
 returns c = wrote-none _ _ _ (omega arith)
-
-sub-if2 : tie.Need-sub-if2
-sub-if2 c = search needs
-
-returns-2 : tie.Need-returns-2
-returns-2 c = wrote-none _ _ _ (omega arith)
 
 slice-aggregate-put-number : tie.Need-slice-aggregate-put-number
 slice-aggregate-put-number c = search needs
@@ -39,16 +36,15 @@ put-text-requires-2 c κs = search needs
 same-length : tie.Need-same-length
 same-length c = search needs
 
-returns-3 : tie.Need-returns-3
-returns-3 c = wrote-whole _ _ _ 52 (omega arith) (omega arith) (search (line-laid, needs))
+returns-2 : tie.Need-returns-2
+returns-2 c = wrote-whole _ _ _ 52 (omega arith) (omega arith) (search (line-laid, needs))
 
 pub put-line-spec : {M : Type 1} → statement M
 put-line-spec =
     tie.close
     (tie.spec
+    room-requires
     returns
-    sub-if2
-    returns-2
     slice-aggregate-put-number
     put-number-requires
     slice-aggregate-put-text
@@ -57,4 +53,4 @@ put-line-spec =
     slice-aggregate-put-text-2
     put-text-requires-2
     same-length
-    returns-3)
+    returns-2)

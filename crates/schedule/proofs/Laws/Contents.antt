@@ -1,20 +1,21 @@
 -- Laws of `contentAt` and of its parts (specs/Parts.antt): what a word that should be a day or `open` says.
---   first-place .. fourth-place, open-found, not-open, not-four     what `open_at` answers; opens-read, a set for `search`
---   below-least, below-fits, below-found, not-below    what `below` answers; belows-read
---   plain-fits, plain-found, not-plain                 what `not_below` answers; plains-read
+--   first-place .. fourth-place, open-found, not-open, not-four    what `open_at` answers; opens-read, a set for `search`
+--   least-within, most-within                          a value that passed two tests is within them
+--   below-found, not-below                             what `below` answers; belows-read
+--   plain-found, not-plain                             what `not_below` answers; plains-read
 --   content-open, content-below, content-plain         what `content_at` answers; contents-read
 -- Assumes nothing.
 use mathlib.Core.Path.{_≡_, refl, sym, ap, _∙_, subst⁻¹}
 use mathlib.Core.List.{List, [], _∷_}
-use mathlib.Core.Bool.{Bool, true, false, cond, not, _&&_, _||_, and-true, and-false, and-assoc}
-use Prim.Native.Nat.{ℕ, zero, suc, _+_, _*_, _-_, _<_, _≤_, _^_, min}
+use mathlib.Core.Bool.{Bool, true, false, cond, _&&_, _||_, and-true, and-false, and-assoc}
+use Prim.Native.Nat.{ℕ, zero, suc, _+_, _-_, _<_, _≤_, min}
 use native.Mathlib.Omega.{arith}
 use lib.Dec.{eqb, leb, ltb}
 use lib.IntN.{ℤ, pos, negsuc}
 use lib.ListN.{length, getD, drop, List·getD-eq-default}
-use borrow.Author.Tests.{leb-true, leb-false, le-leb, lt-leb, ltb-true, ltb-false, ne-eqb, eq-eqb}
+use borrow.Author.Tests.{leb-true, leb-false, lt-leb, ltb-true, ltb-false, ne-eqb}
 use mir.Syntax.{w32}
-use mir.Val.{Fits, toZ}
+use mir.Val.{toZ}
 use mir.Facts.{toZ-pos, toZ-neg}
 use Rattle.content.specs.declared.Content.{Content}
 use Rattle.content.specs.declared.Content.the-variants.{Blank, Open, Day}
@@ -22,11 +23,12 @@ use Rattle.numbers.specs.Limits.{within}
 use Rattle.text.specs.declared.Decimal.{Decimal}
 use Rattle.text.specs.Parts.{firstPart, space}
 use Rattle.text.specs.Decimal.{isDecimal, valueFrom, value, beyond, decimalAt}
-use Rattle.text.proofs.Laws.Parts.{GoesOn, empty, part-room, part-goes-on, part-on}
+use Rattle.text.proofs.Laws.Decimal.{and-split}
+use Rattle.text.proofs.Laws.Parts.{empty, part-room, part-goes-on, part-on}
 use Rattle.schedule.specs.declared.words.Given.{Given}
 use Rattle.schedule.specs.Words.{same, is, isDay, dayIn, isContent, contentIn}
 use Rattle.schedule.specs.Parts.{wordAt, openAt, belowOf, notBelowOf, contentAt}
-use Rattle.schedule.proofs.Laws.Words.{and-split, capped-test}
+use Rattle.schedule.proofs.Laws.Words.{most-of}
 
 -- ---- open
 
@@ -87,24 +89,26 @@ pub ruleset opens-read = (first-place, second-place, third-place, fourth-place, 
 
 -- ---- days
 
+-- what the tests leave to know of a value: rules for `omega`
+module _ (a : Bool) (least v most : ℕ) (t : a && within least most v ≡ true) where
+  both : (leb least v ≡ true) × (leb v most ≡ true)
+  both = and-split (leb least v) (leb v most) (and-split a (within least most v) t .1)
+
+  pub least-within : least ≤ v
+  least-within = leb-true least v (both .0)
+
+  pub most-within : v ≤ most
+  most-within = leb-true v most (both .1)
+
 module _ (d : Decimal) where
   module _ (t : d .ok && within 1 2147483648 (d .value) ≡ true) where
-    tests : (1 ≤ d .value) × (d .value ≤ 2147483648)
-    tests =
-        let both = and-split (leb 1 (d .value)) (leb (d .value) 2147483648) (and-split (d .ok) (within 1 2147483648 (d .value)) t .1) in
-        (leb-true 1 (d .value) (both .0), leb-true (d .value) 2147483648 (both .1))
-
-    pub below-least : d .value ≤ 4294967296
-    below-least = omega (arith, tests)
-
-    pub below-fits : Fits w32 (4294967296 - d .value)
-    below-fits = record { fits = omega (arith, tests) }
-
     pub below-found : (z : ℤ) → z ≡ toZ w32 (4294967296 - d .value) → record { ok = true; content = Day z; end = d .end } ≡ belowOf d
     unfolding belowOf
     below-found z is =
-        let pattern : 4294967296 - d .value ≡ 4294967296 - suc (d .value - 1) = omega (arith, tests) in
-        let day : z ≡ negsuc (d .value - 1) = is ∙ ap (toZ w32) pattern ∙ toZ-neg w32 (d .value - 1) (omega (arith, tests)) in
+        let least = least-within (d .ok) 1 (d .value) 2147483648 t in
+        let most = most-within (d .ok) 1 (d .value) 2147483648 t in
+        let pattern : 4294967296 - d .value ≡ 4294967296 - suc (d .value - 1) = omega arith in
+        let day : z ≡ negsuc (d .value - 1) = is ∙ ap (toZ w32) pattern ∙ toZ-neg w32 (d .value - 1) (omega arith) in
         rw (t, day)
 
   pub not-below : d .ok && within 1 2147483648 (d .value) ≡ false → record { ok = false; content = Blank; end = d .end } ≡ belowOf d
@@ -112,25 +116,20 @@ module _ (d : Decimal) where
   not-below t = rw t
 
   module _ (t : d .ok && leb (d .value) 2147483647 ≡ true) where
-    most : d .value ≤ 2147483647
-    most = leb-true (d .value) 2147483647 (and-split (d .ok) (leb (d .value) 2147483647) t .1)
-
-    pub plain-fits : Fits w32 (d .value)
-    plain-fits = record { fits = omega (arith, most) }
-
     pub plain-found : (z : ℤ) → z ≡ toZ w32 (d .value) → record { ok = true; content = Day z; end = d .end } ≡ notBelowOf d
     unfolding notBelowOf
     plain-found z is =
-        let day : z ≡ pos (d .value) = is ∙ toZ-pos w32 (omega (arith, most)) in
+        let most = most-of (d .ok) (d .value) 2147483647 t in
+        let day : z ≡ pos (d .value) = is ∙ toZ-pos w32 (omega arith) in
         rw (t, day)
 
   pub not-plain : d .ok && leb (d .value) 2147483647 ≡ false → record { ok = false; content = Blank; end = d .end } ≡ notBelowOf d
   unfolding notBelowOf
   not-plain t = rw t
 
-pub ruleset belows-read = (below-least, below-fits, below-found, not-below)
+pub ruleset belows-read = (below-found, not-below)
 
-pub ruleset plains-read = (plain-fits, plain-found, not-plain)
+pub ruleset plains-read = (plain-found, not-plain)
 
 -- ---- of a capped value
 

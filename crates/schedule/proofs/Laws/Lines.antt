@@ -1,14 +1,14 @@
 -- Laws of `linesOf` (specs/Lines.antt).
---   no-lines, line-ended, line-cut, line-taken         the lines from a place on, one by one: what a walk from line to line cites
+--   no-lines, lines-over, line-taken, line-ended, line-cut    the lines from a place on, one by one: what a walk from line to line cites
 --   LinesSoFar, lines-counted                          the loop of `lines_in`, and its laws as a set for `search`
 -- Assumes nothing.
 use mathlib.Core.Path.{_≡_, refl, sym, ap, _∙_}
 use mathlib.Core.List.{List, [], _∷_}
 use mathlib.Core.Bool.{Bool, true, false, cond, not}
-use Prim.Native.Nat.{ℕ, zero, suc, _+_, _-_, _<_, _≤_, _^_}
+use Prim.Native.Nat.{ℕ, suc, _+_, _-_, _<_, _≤_, _^_}
 use native.Mathlib.Omega.{arith}
 use native.Mathlib.Numerals.{add-one, one-add}
-use lib.Dec.{eqb, ltb}
+use lib.Dec.{eqb}
 use lib.ListN.{length, getD, take, drop, length-drop, drop-of-length-le}
 use lib.Seq.{drop-cons, take-all}
 use borrow.Author.Tests.{lt-ltb, le-ltb}
@@ -16,7 +16,7 @@ use mir.Syntax.{w64}
 use mir.Val.{Fits, boolByte}
 use Rattle.text.specs.Parts.{parts, firstPart, ontoFirst, lineFeed}
 use Rattle.text.proofs.Laws.Parts.{parts-on, part-taken}
-use Rattle.schedule.specs.Lines.{Line, ended, cut, lastLine, linesIn, linesOf}
+use Rattle.schedule.specs.Lines.{ended, cut, lastLine, linesIn, linesOf}
 
 -- ---- one by one
 
@@ -25,6 +25,10 @@ unfolding linesOf parts
 no-lines = refl
 
 module _ (input : List ℕ) (from : ℕ) where
+  -- nothing is left
+  pub lines-over : length input ≤ from → linesOf (drop from input) ≡ []
+  lines-over h = ap linesOf (drop-of-length-le input h) ∙ no-lines
+
   -- where the line ends that starts at `from`
   abbrev lineEnd : ℕ
   lineEnd = from + length (firstPart lineFeed (drop from input))

@@ -13,7 +13,7 @@ use mathlib.Core.Option.{Option, none, some}
 use Prim.Native.Nat.{ℕ, _+_, _≤_}
 use native.Mathlib.Omega.{arith}
 use lib.Dec.{leb, ltb, eqb}
-use lib.ListN.{length, drop, drop-of-length-le}
+use lib.ListN.{length, drop-of-length-le}
 use borrow.Author.Tests.{ltb-false, ne-eqb}
 use Rattle.acting.specs.declared.Act.{Act}
 use Rattle.acting.specs.declared.Act.the-variants as act

@@ -7,8 +7,8 @@ use mathlib.Core.Bool.{Bool, true, false, cond, not, _&&_}
 use mathlib.Core.Option.{Option, none, some}
 use Prim.Native.Nat.{ℕ, _+_}
 use lib.Dec.{leb, ltb}
-use lib.ListN.{length, drop}
-use Rattle.text.specs.Parts.{parts, space}
+use lib.ListN.{length}
+use Rattle.text.specs.Parts.{space}
 use Rattle.text.specs.Decimal.{value}
 use Rattle.text.proofs.Laws.Parts.{parts-on}
 use Rattle.schedule.specs.declared.words.Number.{Number}
@@ -16,7 +16,7 @@ use Rattle.schedule.specs.declared.words.Letter.{Letter}
 use Rattle.schedule.specs.Lines.{ended}
 use Rattle.schedule.specs.Words.{isNumber}
 use Rattle.schedule.specs.Start.{Start, isMode, modeIn, startOf, startIn}
-use Rattle.schedule.specs.Parts.{wordAt, wordsAt, numberAt, letterOf, letterAt, modeOf}
+use Rattle.schedule.specs.Parts.{wordAt, numberAt, letterOf, letterAt, modeOf}
 use Rattle.schedule.proofs.Laws.Words.{not-before, is-mode, mode-is}
 
 -- three words and no more, by the tests whether a space ends each

@@ -1,30 +1,31 @@
 -- Laws of `stepIn` (specs/Step.antt): what is known of a step that a line says.
+--   fair                all that follows, as a record (specs/Promises.antt)
 --   desk-is-there       its desk is one of the n
 --   sender-is-there     so is the sender of what it delivers
 --   day-fits            what it writes is a day of 32 bits, or no day
 --   no-step-of-cut      a cut line says none
 -- Assumes nothing.
-use mathlib.Core.Path.{_≡_, refl, sym, ap, _∙_, subst}
+use mathlib.Core.Path.{_≡_, refl, subst}
 use mathlib.Core.List.{List, [], _∷_}
 use mathlib.Core.Bool.{Bool, true, false, cond, _&&_, false≢true}
 use mathlib.Core.Option.{Option, none, some}
-use Prim.Native.Nat.{ℕ, _-_, _<_, _≤_}
+use Prim.Native.Nat.{ℕ, _-_, _<_}
 use native.Mathlib.Omega.{arith}
 use lib.Dec.{eqb, leb, ltb}
-use lib.IntN.{ℤ, pos, negsuc}
 use borrow.Author.Tests.{ltb-true, leb-true}
 use mir.Syntax.{w32}
 use mir.Val.{SFits}
-use Rattle.acting.specs.Step.{Act, writes, reads, sends, delivers, takes, Step}
+use Rattle.acting.specs.Step.{writes, reads, sends, delivers, takes, Step}
 use Rattle.content.specs.declared.Content.{Content}
 use Rattle.content.specs.declared.Content.the-variants.{Open, Day}
 use Rattle.content.specs.Content.{dayOf}
 use Rattle.numbers.specs.Limits.{within}
 use Rattle.text.specs.Decimal.{isDecimal, value}
+use Rattle.text.proofs.Laws.Decimal.{and-split}
 use Rattle.schedule.specs.Lines.{Line, ended, cut}
 use Rattle.schedule.specs.Words.{words, is, isNumber, isDesk, minus, isDay, dayIn, isContent, contentIn}
 use Rattle.schedule.specs.Step.{writeIn, readIn, deliverIn, actIn, stepOf, stepIn}
-use Rattle.schedule.proofs.Laws.Words.{and-split}
+use Rattle.schedule.specs.Promises.{Fair}
 
 -- ---- words
 
@@ -57,12 +58,6 @@ content-fits word t = by-open (is "open" word) refl
     by-open false e = day-of-word word (rw e at t)
 
 -- ---- steps
-
--- what is known of an act, for every act at once
-record Fair (n : ℕ) (step : Step) : Type 0 where
-  pub desk : step .desk < n
-  pub sender : (q : ℕ) → step .act ≡ delivers q → q < n
-  pub day : (cell : ℕ) (c : Content) → step .act ≡ writes cell c → SFits w32 (dayOf c)
 
 -- two acts of different kinds are not the same
 apart : {A : Type 0} → _≡_ {A = ℕ} 0 1 → A
@@ -143,7 +138,7 @@ module _ (n : ℕ) (step : Step) where
       (either (is "d" l) _ _ (deliver-fair ws)
       (either (is "t" l) _ _ (take-fair ws) nothing)))) e
 
-  fair : (l : Line) → stepIn n l ≡ some step → Fair n step
+  pub fair : (l : Line) → stepIn n l ≡ some step → Fair n step
   unfolding stepIn
   fair (ended line) e = fair-of (words line) e
   fair (cut line) e = nothing e

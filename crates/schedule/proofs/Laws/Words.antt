@@ -1,8 +1,8 @@
 -- Laws of the words of a line: of `numberAt`, `letterAt`, `modeOf` (specs/Parts.antt) and `is` (specs/Words.antt).
---   and-split, not-before                          tests
+--   not-before                                     a test and its contrary
 --   capped-test                                    a test of a capped value is the value's
---   number-fits, number-found, no-number           what `number_at` answers; numbers-read, a set for `search`
---   desk-test                                      a number below n is a desk of n
+--   most-of                                        a value that passed a test is within it
+--   number-found, no-number                        what `number_at` answers; numbers-read, a set for `search`
 --   number-room, letter-room                       where a word ends
 --   letter-place, letter-found, no-letter          what `letter_at` answers; letters-read
 --   past-is-0                                      what `byte_at` answers past the end
@@ -12,27 +12,22 @@
 -- Assumes nothing.
 use mathlib.Core.Path.{_≡_, refl, sym, ap, _∙_}
 use mathlib.Core.List.{List, [], _∷_}
-use mathlib.Core.Bool.{Bool, true, false, cond, not, _&&_, _||_, and-true, and-false, false≢true}
-use Prim.Native.Nat.{ℕ, zero, suc, _+_, _*_, _-_, _<_, _≤_, min}
+use mathlib.Core.Bool.{Bool, true, false, cond, not, _&&_, _||_, and-true, and-false}
+use Prim.Native.Nat.{ℕ, _+_, _-_, _<_, _≤_, min}
 use native.Mathlib.Omega.{arith}
 use lib.Dec.{eqb, leb, ltb}
 use lib.ListN.{length, getD, drop, List·getD-eq-default}
-use borrow.Author.Tests.{ltb-true, ltb-false, leb-true, leb-false, le-leb, lt-leb, ne-eqb, eq-eqb}
-use mir.Syntax.{w32}
-use mir.Val.{Fits}
+use borrow.Author.Tests.{ltb-true, ltb-false, leb-true, leb-false, le-leb, lt-leb, ne-eqb}
 use Rattle.text.specs.declared.Decimal.{Decimal}
 use Rattle.text.specs.Parts.{firstPart, space}
 use Rattle.text.specs.Decimal.{isDecimal, value, beyond, decimalAt}
+use Rattle.text.proofs.Laws.Decimal.{and-split}
 use Rattle.text.proofs.Laws.Parts.{empty, part-room, part-goes-on}
 use Rattle.schedule.specs.declared.words.Number.{Number}
 use Rattle.schedule.specs.declared.words.Letter.{Letter}
-use Rattle.schedule.specs.Words.{same, is, isNumber, isDesk}
+use Rattle.schedule.specs.Words.{same, is, isNumber}
 use Rattle.schedule.specs.Start.{isMode, modeIn}
 use Rattle.schedule.specs.Parts.{wordAt, numberAt, letterOf, letterAt, modeOf}
-
-pub and-split : (a b : Bool) → a && b ≡ true → (a ≡ true) × (b ≡ true)
-and-split true b e = (refl, e)
-and-split false b e = absurd (false≢true e)
 
 -- a place that is not before another is not below it
 pub not-before : (a b : ℕ) → not (ltb a b) ≡ leb b a
@@ -51,9 +46,9 @@ capped-test v k h = by-test (leb v k) refl
     by-test true e = let l = leb-true v k e in le-leb (min v beyond) k (omega arith) ∙ sym e
     by-test false e = let l = leb-false v k e in lt-leb (min v beyond) k (omega arith) ∙ sym e
 
-module _ (d : Decimal) where
-  pub number-fits : d .ok && leb (d .value) 4294967295 ≡ true → Fits w32 (d .value)
-  number-fits t = let l = leb-true (d .value) 4294967295 (and-split (d .ok) _ t .1) in record { fits = omega arith }
+-- what a test leaves to know of a value: a rule for `omega`
+pub most-of : (a : Bool) (v most : ℕ) → a && leb v most ≡ true → v ≤ most
+most-of a v most t = leb-true v most (and-split a (leb v most) t .1)
 
 module _ (line : List ℕ) (from : ℕ) (d : Decimal) (is : d ≡ decimalAt space line from) where
   ends : d .end ≡ from + length (wordAt line from)
@@ -73,7 +68,7 @@ module _ (line : List ℕ) (from : ℕ) (d : Decimal) (is : d ≡ decimalAt spac
   pub number-found : d .ok && leb (d .value) 4294967295 ≡ true → record { ok = true; value = d .value; end = d .end } ≡ numberAt line from
   unfolding numberAt
   number-found t =
-      let small = leb-true (d .value) 4294967295 (and-split (d .ok) _ t .1) in
+      let small = most-of (d .ok) (d .value) 4294967295 t in
       let v-is : d .value ≡ value (wordAt line from) = omega (arith, by-value) in
       rw (sym number-test ∙ t, v-is, ends)
 
@@ -81,7 +76,7 @@ module _ (line : List ℕ) (from : ℕ) (d : Decimal) (is : d ≡ decimalAt spac
   unfolding numberAt
   no-number t = rw (sym number-test ∙ t, ends)
 
-pub ruleset numbers-read = (number-fits, number-found, no-number)
+pub ruleset numbers-read = (number-found, no-number)
 
 module _ (line : List ℕ) (from : ℕ) (p : Number) where
   pub number-room : p ≡ numberAt line from → p .end ≤ from + (length line - from)

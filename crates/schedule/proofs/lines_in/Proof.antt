@@ -41,7 +41,7 @@ add-result : tie.Need-add-result Inv-loop μ-loop
 add-result c = search needs
 
 returns : tie.Need-returns Inv-loop μ-loop
-returns c = search (lines-counted, needs)
+returns c = search lines-counted
 
 pub lines-in-spec : {M : Type 1} → statement M
 lines-in-spec =

@@ -27,10 +27,10 @@ mode-of-requires : tie.Need-mode-of-requires
 mode-of-requires c κs = search needs
 
 returns : tie.Need-returns
-returns c = search (starts-read, needs)
+returns c = search starts-read
 
 returns-2 : tie.Need-returns-2
-returns-2 c = search (starts-read, needs)
+returns-2 c = search starts-read
 
 pub start-in-spec : {M : Type 1} → statement M
 start-in-spec =

@@ -32,22 +32,22 @@ bad-requires : tie.Need-bad-requires
 bad-requires c κs = search needs
 
 returns : tie.Need-returns
-returns c = search (steps-read, needs)
+returns c = search steps-read
 
 returns-2 : tie.Need-returns-2
-returns-2 c = search (steps-read, needs)
+returns-2 c = search steps-read
 
 returns-3 : tie.Need-returns-3
-returns-3 c = search (steps-read, needs)
+returns-3 c = search steps-read
 
 returns-4 : tie.Need-returns-4
-returns-4 c = search (steps-read, needs)
+returns-4 c = search steps-read
 
 returns-5 : tie.Need-returns-5
-returns-5 c = search (steps-read, needs)
+returns-5 c = search steps-read
 
 returns-6 : tie.Need-returns-6
-returns-6 c = search (steps-read, needs)
+returns-6 c = search steps-read
 
 pub step-in-spec : {M : Type 1} → statement M
 step-in-spec =

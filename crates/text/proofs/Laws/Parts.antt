@@ -4,13 +4,13 @@
 --   part-goes-on                        where it is not empty, its first byte is the text's
 --   part-taken                          it is as many bytes of the text
 --   parts-on                            the parts are the first, and, where a separator ends it, those behind it: what a walk from part to part cites
---   part-within                         a part that starts in the text ends in it
+--   part-short, part-room, part-within  how long it can be: a part that starts in the text ends in it
 --   PartSoFar, part-found               the loop that looks for a part's end, and its laws as a set for `search`
 -- Assumes nothing.
 use mathlib.Core.Path.{_≡_, refl, sym, ap, _∙_}
 use mathlib.Core.List.{List, [], _∷_}
 use mathlib.Core.Bool.{Bool, true, false, cond}
-use Prim.Native.Nat.{ℕ, zero, suc, _+_, _-_, _<_, _≤_}
+use Prim.Native.Nat.{ℕ, suc, _+_, _-_, _<_, _≤_}
 use native.Mathlib.Omega.{arith}
 use native.Mathlib.Numerals.{add-one}
 use lib.Dec.{eqb, ltb, leb·suc-suc}

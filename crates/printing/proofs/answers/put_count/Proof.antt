@@ -1,7 +1,7 @@
--- `put_count` meets its contract: the digits stand behind the text (the laws `counts-laid`).
+-- `put_count` meets its contract: the digits stand behind the text (the laws `numbers-laid`).
 -- Assumes nothing.
 use borrow.Author.Needs.{needs}
-use Rattle.printing.proofs.Laws.Puts.{counts-laid}
+use Rattle.printing.proofs.Laws.Puts.{numbers-laid}
 use Rattle.printing.proofs.answers.put_count.Statement.{statement}
 use Rattle.printing.proofs.answers.put_count.Tie as tie
 
@@ -12,13 +12,13 @@ put-decimal-requires : tie.Need-put-decimal-requires
 put-decimal-requires c κs = search needs
 
 add-result : tie.Need-add-result
-add-result c = search (counts-laid, needs)
+add-result c = search (numbers-laid, needs)
 
 same-length : tie.Need-same-length
 same-length c = search needs
 
 returns : tie.Need-returns
-returns c = search (counts-laid, needs)
+returns c = search (numbers-laid, needs)
 
 pub put-count-spec : {M : Type 1} → statement M
 put-count-spec =

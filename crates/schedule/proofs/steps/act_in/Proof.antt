@@ -9,13 +9,13 @@ number-at-requires : tie.Need-number-at-requires
 number-at-requires c κs = search needs
 
 returns : tie.Need-returns
-returns c = search (alones-read, needs)
+returns c = search alones-read
 
 bad-requires : tie.Need-bad-requires
 bad-requires c κs = search needs
 
 returns-2 : tie.Need-returns-2
-returns-2 c = search (alones-read, needs)
+returns-2 c = search alones-read
 
 pub act-in-spec : {M : Type 1} → statement M
 act-in-spec = tie.close (tie.spec number-at-requires returns bad-requires returns-2)

@@ -17,13 +17,13 @@ number-at-requires-2 : tie.Need-number-at-requires-2
 number-at-requires-2 c κs = search needs
 
 returns : tie.Need-returns
-returns c = search (reads-read, needs)
+returns c = search reads-read
 
 bad-requires : tie.Need-bad-requires
 bad-requires c κs = search needs
 
 returns-2 : tie.Need-returns-2
-returns-2 c = search (reads-read, needs)
+returns-2 c = search reads-read
 
 pub read-in-spec : {M : Type 1} → statement M
 read-in-spec =

@@ -23,13 +23,13 @@ content-at-requires : tie.Need-content-at-requires
 content-at-requires c κs = omega (arith, number-room)
 
 returns : tie.Need-returns
-returns c = search (writes-read, needs)
+returns c = search writes-read
 
 bad-requires : tie.Need-bad-requires
 bad-requires c κs = search needs
 
 returns-2 : tie.Need-returns-2
-returns-2 c = search (writes-read, needs)
+returns-2 c = search writes-read
 
 pub write-in-spec : {M : Type 1} → statement M
 write-in-spec =

@@ -27,13 +27,13 @@ not-below-requires : tie.Need-not-below-requires
 not-below-requires c κs = search needs
 
 returns : tie.Need-returns
-returns c = search (contents-read, needs)
+returns c = search contents-read
 
 returns-2 : tie.Need-returns-2
-returns-2 c = search (contents-read, needs)
+returns-2 c = search contents-read
 
 returns-3 : tie.Need-returns-3
-returns-3 c = search (contents-read, needs)
+returns-3 c = search contents-read
 
 pub content-at-spec : {M : Type 1} → statement M
 content-at-spec =

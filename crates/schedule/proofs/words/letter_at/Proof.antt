@@ -15,10 +15,10 @@ shared-slice-read-t7 : tie.Need-shared-slice-read-t7
 shared-slice-read-t7 c = search (letters-read, needs)
 
 returns : tie.Need-returns
-returns c = search (letters-read, needs)
+returns c = search letters-read
 
 returns-2 : tie.Need-returns-2
-returns-2 c = search (letters-read, needs)
+returns-2 c = search letters-read
 
 pub letter-at-spec : {M : Type 1} → statement M
 letter-at-spec =

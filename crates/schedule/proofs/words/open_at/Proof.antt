@@ -33,13 +33,13 @@ shared-slice-read-if2-4 : tie.Need-shared-slice-read-if2-4
 shared-slice-read-if2-4 c = search (opens-read, needs)
 
 returns : tie.Need-returns
-returns c = search (opens-read, needs)
+returns c = search opens-read
 
 returns-2 : tie.Need-returns-2
-returns-2 c = search (opens-read, needs)
+returns-2 c = search opens-read
 
 returns-3 : tie.Need-returns-3
-returns-3 c = search (opens-read, needs)
+returns-3 c = search opens-read
 
 pub open-at-spec : {M : Type 1} → statement M
 open-at-spec =

@@ -1,0 +1,45 @@
+-- The promises of specs/Promises.antt.
+--   steps-are-fair : StepsAreFair
+--   listing-reads : Listing, edges-read : AtTheEdges, other-forms : OtherForms, each by computing
+-- Assumes nothing.
+use mathlib.Core.Path.{refl}
+use Rattle.text.specs.Parts.{parts}
+use Rattle.text.specs.Decimal.{isDecimal, valueFrom, value}
+use Rattle.schedule.specs.Words.{is, isNumber, isDesk, isDay, dayIn, isContent, contentIn}
+use Rattle.schedule.specs.Start.{isMode, modeIn, startIn}
+use Rattle.schedule.specs.Step.{stepIn}
+use Rattle.schedule.specs.Promises.{StepsAreFair, Listing, AtTheEdges, OtherForms}
+use Rattle.schedule.proofs.Laws.Steps.{fair}
+
+pub steps-are-fair : StepsAreFair
+steps-are-fair n l step says = fair n step l says
+
+pub listing-reads : Listing
+unfolding parts isDecimal valueFrom value is isNumber isDesk isDay dayIn isContent contentIn isMode modeIn startIn stepIn
+listing-reads = record { start = refl; step-1 = refl; step-2 = refl; step-4 = refl; step-5 = refl; step-6 = refl; step-8 = refl }
+
+pub edges-read : AtTheEdges
+unfolding parts isDecimal valueFrom value is isNumber isDesk isDay dayIn isContent contentIn isMode modeIn startIn stepIn
+edges-read = record { greatest-cell = refl; greatest-day = refl; least-day = refl; default-mode = refl }
+
+pub other-forms : OtherForms
+unfolding parts isDecimal valueFrom value is isNumber isDesk isDay dayIn isContent contentIn stepIn
+other-forms =
+    record {
+      nothing-at-all = refl;
+      two-spaces = refl;
+      space-in-front = refl;
+      space-behind = refl;
+      a-word-more = refl;
+      a-word-less = refl;
+      leading-zero = refl;
+      number-beyond = refl;
+      no-such-desk = refl;
+      minus-before-a-cell = refl;
+      minus-before-0 = refl;
+      day-beyond = refl;
+      day-below = refl;
+      blank-is-no-word = refl;
+      capital-letter = refl;
+      no-line-feed = refl;
+    }
