@@ -1,3 +1,4 @@
 pub mod Steps
 pub mod Rounds
 pub mod Parts
+pub mod Promises

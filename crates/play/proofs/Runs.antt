@@ -1,0 +1,157 @@
+-- The steps of a schedule are calls of the run of demand 3 (specs/Promises.antt).
+--   first-as-all : FirstAsAll
+--   schedules-are-runs : SchedulesAreRuns
+-- Assumes nothing.
+use Prim.Native.Nat.{ℕ, suc, _+_, _<_, _≤_}
+use mathlib.Core.Path.{_≡_, refl, sym, ap, _∙_, subst}
+use mathlib.Core.Bool.{Bool, true, false, cond}
+use mathlib.Core.List.{List, [], _∷_, _++_, append-nil}
+use mathlib.Core.Option.{Option, none, some}
+use native.Mathlib.Omega.{arith}
+use lib.Dec.{eqb, leb}
+use lib.ListN.{length}
+use borrow.Author.Tests.{lt-leb}
+use mir.Syntax.{w32}
+use mir.Val.{SFits}
+use Rattle.answer.specs.Answer.{Answer}
+use Rattle.content.specs.declared.Content.{Content}
+use Rattle.content.specs.Content.{dayOf}
+use Rattle.desk.specs.Answers.{Value, opened}
+use Rattle.desk.specs.Calls.{modeFor, openOf}
+use Rattle.runs.specs.Calls.{Call, document01}
+use Rattle.runs.specs.Calls as calls
+use Rattle.runs.specs.Run.{Shelf, Within, Sheet, State, start, made, after, Possible, Run, answers}
+use Rattle.runs.proofs.TurnRules.{turn-rules}
+use Rattle.acting.specs.Step.{Act, Step}
+use Rattle.acting.specs.Step as spec
+use Rattle.acting.specs.Said.{Said, nothingSent, badLine}
+use Rattle.schedule.specs.Lines.{Line, linesOf}
+use Rattle.schedule.specs.Start.{Start, startIn}
+use Rattle.schedule.specs.Step.{stepIn}
+use Rattle.schedule.specs.Promises.{Fair}
+use Rattle.schedule.proofs.Laws.Promised.{steps-are-fair}
+use Rattle.printing.specs.Printing.{lineText, headerText}
+use Rattle.play.specs.Steps.{latestFrom, latestOf, deliversLatest, callBy, callOf, saidBy, saidOf, afterBy, afterStep}
+use Rattle.play.specs.Rounds.{tooLong, stepText, stepsText, shelfOf, opens, badStart, runText, linesText, printed}
+use Rattle.play.specs.Promises.{FirstAsAll, stepsThen, stepsIn, endsThen, endsBadly, callsThen, callsOf, saysOf, numbered, answersIn, Starts, IsARun, SchedulesAreRuns}
+use Rattle.play.proofs.Laws.Whole.{opens-says}
+use Rattle.text.specs.Text.{text}
+
+-- ---- the desks
+
+pub first-as-all : FirstAsAll
+unfolding openOf
+first-as-all n m mode p l = rw (lt-leb n p l, lt-leb n 0 (omega arith))
+
+-- ---- what is printed
+
+text-is : (n k : ℕ) (s : State) (lines : List Line) → stepsText n k s lines ≡ numbered k (saysOf s (stepsIn n lines)) (endsBadly n lines)
+unfolding stepsText numbered saysOf stepsIn endsBadly
+text-is n k s [] = refl
+text-is n k s (line ∷ lines) = by-step (stepIn n line) (λ t. text-is n (k + 1) t lines)
+  where
+    by-step : (o : Option Step) → ((t : State) → stepsText n (k + 1) t lines ≡ numbered (k + 1) (saysOf t (stepsIn n lines)) (endsBadly n lines))
+        → stepText k s o (λ t. stepsText n (k + 1) t lines) ≡ numbered k (saysOf s (stepsThen o (stepsIn n lines))) (endsThen o (endsBadly n lines))
+    by-step none more = refl
+    by-step (some step) more = ap (λ (l : List ℕ). lineText k (saidOf s step) ++ l) (more (afterStep s step))
+
+answers-of : (s : State) (steps : List Step) → answersIn (saysOf s steps) ≡ answers document01 s (callsOf s steps)
+unfolding saysOf callsOf answers saidOf afterStep
+answers-of s [] = refl
+answers-of s (step ∷ steps) = by-call (callOf s step) (λ t. answers-of t steps)
+  where
+    by-call : (o : Option Call) → ((t : State) → answersIn (saysOf t steps) ≡ answers document01 t (callsOf t steps))
+        → answersIn (saidBy s o ∷ saysOf (afterBy s o) steps) ≡ answers document01 s (callsThen s o (λ t. callsOf t steps))
+    by-call none more = more s
+    by-call (some c) more = ap (λ (l : List (Answer Value)). made document01 s c .answer ∷ l) (more (after document01 s c))
+
+-- ---- the calls
+
+-- a sheet that is delivered was sent
+within : Option ℕ → ℕ → Type 0
+within none k = Unit {0}
+within (some i) k = i < k
+
+there-from : (q k : ℕ) (found : Option ℕ) (line : List Sheet) → within found k → within (latestFrom q k found line) (k + length line)
+unfolding latestFrom within
+there-from q k found [] so = sooner found so
+  where
+    sooner : (o : Option ℕ) → within o k → within o (k + 0)
+    sooner none l = tt
+    sooner (some i) l = omega arith
+there-from q k found (x ∷ line) so =
+    let on : suc k + length line ≡ k + suc (length line) = omega arith in
+    subst (within (latestFrom q (suc k) (cond (eqb (x .from) q) (some k) found) line)) on
+    (there-from q (suc k) (cond (eqb (x .from) q) (some k) found) line (by-test (eqb (x .from) q) found so))
+  where
+    by-test : (b : Bool) (o : Option ℕ) → within o k → within (cond b (some k) o) (suc k)
+    by-test true o l = omega arith
+    by-test false none l = tt
+    by-test false (some i) l = omega arith
+
+-- a step's call may be next
+abbrev Next : ℕ → State → Option Call → Type 0
+Next n s none = Unit {0}
+Next n s (some c) = Possible n s c
+
+module _ (n : ℕ) (s : State) where
+  by-latest : (p : ℕ) → p < n → (o : Option ℕ) → within o (length (s .line)) → Next n s (deliversLatest p o)
+  unfolding within
+  by-latest p l none there = tt
+  by-latest p l (some k) there = (l, there)
+
+  by-act : (p : ℕ) (a : Act) → p < n → ((cell : ℕ) (c : Content) → a ≡ spec.writes cell c → SFits w32 (dayOf c)) → Next n s (callBy s p a)
+  unfolding latestOf within
+  by-act p (spec.writes cell c) l day = (l, day cell c refl)
+  by-act p (spec.reads cell) l day = l
+  by-act p spec.sends l day = l
+  by-act p (spec.delivers q) l day =
+      let all : 0 + length (s .line) ≡ length (s .line) = omega arith in
+      by-latest p l (latestOf q (s .line)) (subst (within (latestFrom q 0 none (s .line))) all (there-from q 0 none (s .line) tt))
+  by-act p spec.takes l day = l
+
+  next-is : (step : Step) → Fair n step → Next n s (callOf s step)
+  next-is step fair = by-act (step .desk) (step .act) (fair .desk) (fair .day)
+
+is-run : (n : ℕ) (s : State) (lines : List Line) → Run document01 n s (callsOf s (stepsIn n lines))
+unfolding Run callsOf stepsIn
+is-run n s [] = tt
+is-run n s (line ∷ lines) = by-step (stepIn n line) refl (λ t. is-run n t lines)
+  where
+    by-call : (o : Option Call) → Next n s o → ((t : State) → Run document01 n t (callsOf t (stepsIn n lines))) → Run document01 n s (callsThen s o (λ t. callsOf t (stepsIn n lines)))
+    by-call none possible more = more s
+    by-call (some c) possible more = (possible, more (after document01 s c))
+
+    by-step : (o : Option Step) → stepIn n line ≡ o → ((t : State) → Run document01 n t (callsOf t (stepsIn n lines))) → Run document01 n s (callsOf s (stepsThen o (stepsIn n lines)))
+    by-step none e more = tt
+    by-step (some step) e more = by-call (callOf s step) (next-is n s step (steps-are-fair n line step e)) more
+
+-- ---- a schedule is a run
+
+pub schedules-are-runs : SchedulesAreRuns
+unfolding printed
+schedules-are-runs input x lines so =
+    let n : ℕ = x .n in
+    let allowed = opens-says (x .n) (x .m) (x .mode) (so .can-open) in
+    let run = is-run n (start (shelfOf x)) lines in
+    record {
+      is-run = run;
+      same-answers = answers-of (start (shelfOf x)) (stepsIn n lines);
+      prints =
+          ap (λ (b : Bool). cond b (text "too long\n") (linesText (linesOf input))) (so .fits)
+          ∙ ap linesText (so .all-lines)
+          ∙ ap (λ (o : Option Start). runText o lines) (so .says)
+          ∙ ap (λ (b : Bool). cond b (headerText n (x .m) (modeFor (x .mode)) ++ stepsText n 1 (start (shelfOf x)) lines) badStart) (so .can-open)
+          ∙ ap (λ (l : List ℕ). headerText n (x .m) (modeFor (x .mode)) ++ l) (text-is n 1 (start (shelfOf x)) lines);
+      turn-rules =
+          turn-rules (shelfOf x)
+          (record {
+            desks-least = allowed .desks-least;
+            desks-most = allowed .desks-most;
+            cells-least = allowed .cells-least;
+            cells-most = allowed .cells-most;
+            modes-most = λ p l. allowed .mode-most;
+          })
+          (callsOf (start (shelfOf x)) (stepsIn n lines))
+          run;
+    }
