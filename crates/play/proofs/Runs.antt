@@ -2,13 +2,13 @@
 --   first-as-all : FirstAsAll
 --   schedules-are-runs : SchedulesAreRuns
 -- Assumes nothing.
-use Prim.Native.Nat.{ℕ, suc, _+_, _<_, _≤_}
-use mathlib.Core.Path.{_≡_, refl, sym, ap, _∙_, subst}
+use Prim.Native.Nat.{ℕ, suc, _+_, _<_}
+use mathlib.Core.Path.{_≡_, refl, ap, _∙_, subst}
 use mathlib.Core.Bool.{Bool, true, false, cond}
-use mathlib.Core.List.{List, [], _∷_, _++_, append-nil}
+use mathlib.Core.List.{List, [], _∷_, _++_}
 use mathlib.Core.Option.{Option, none, some}
 use native.Mathlib.Omega.{arith}
-use lib.Dec.{eqb, leb}
+use lib.Dec.{eqb}
 use lib.ListN.{length}
 use borrow.Author.Tests.{lt-leb}
 use mir.Syntax.{w32}
@@ -16,24 +16,22 @@ use mir.Val.{SFits}
 use Rattle.answer.specs.Answer.{Answer}
 use Rattle.content.specs.declared.Content.{Content}
 use Rattle.content.specs.Content.{dayOf}
-use Rattle.desk.specs.Answers.{Value, opened}
+use Rattle.desk.specs.Answers.{Value}
 use Rattle.desk.specs.Calls.{modeFor, openOf}
 use Rattle.runs.specs.Calls.{Call, document01}
-use Rattle.runs.specs.Calls as calls
-use Rattle.runs.specs.Run.{Shelf, Within, Sheet, State, start, made, after, Possible, Run, answers}
+use Rattle.runs.specs.Run.{Sheet, State, start, made, after, Possible, Run, answers}
 use Rattle.runs.proofs.TurnRules.{turn-rules}
 use Rattle.acting.specs.Step.{Act, Step}
 use Rattle.acting.specs.Step as spec
-use Rattle.acting.specs.Said.{Said, nothingSent, badLine}
 use Rattle.schedule.specs.Lines.{Line, linesOf}
-use Rattle.schedule.specs.Start.{Start, startIn}
+use Rattle.schedule.specs.Start.{Start}
 use Rattle.schedule.specs.Step.{stepIn}
 use Rattle.schedule.specs.Promises.{Fair}
 use Rattle.schedule.proofs.Laws.Promised.{steps-are-fair}
 use Rattle.printing.specs.Printing.{lineText, headerText}
 use Rattle.play.specs.Steps.{latestFrom, latestOf, deliversLatest, callBy, callOf, saidBy, saidOf, afterBy, afterStep}
-use Rattle.play.specs.Rounds.{tooLong, stepText, stepsText, shelfOf, opens, badStart, runText, linesText, printed}
-use Rattle.play.specs.Promises.{FirstAsAll, stepsThen, stepsIn, endsThen, endsBadly, callsThen, callsOf, saysOf, numbered, answersIn, Starts, IsARun, SchedulesAreRuns}
+use Rattle.play.specs.Rounds.{stepText, stepsText, shelfOf, badStart, runText, linesText, printed}
+use Rattle.play.specs.Promises.{FirstAsAll, stepsThen, stepsIn, endsThen, endsBadly, callsThen, callsOf, saysOf, numbered, answersIn, SchedulesAreRuns}
 use Rattle.play.proofs.Laws.Whole.{opens-says}
 use Rattle.text.specs.Text.{text}
 

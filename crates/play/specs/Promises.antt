@@ -9,7 +9,7 @@ use Rattle.answer.specs.Answer.{Answer}
 use Rattle.desk.specs.Answers.{Value}
 use Rattle.desk.specs.Calls.{modeFor, openOf}
 use Rattle.runs.specs.Calls.{Call, document01}
-use Rattle.runs.specs.Run.{Shelf, State, start, after, Run, later, answers}
+use Rattle.runs.specs.Run.{State, start, after, Run, answers}
 use Rattle.runs.specs.TurnRules.{TurnRules}
 use Rattle.acting.specs.Step.{Step}
 use Rattle.acting.specs.Said.{Said, nothingSent, badLine}

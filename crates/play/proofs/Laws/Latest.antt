@@ -5,7 +5,7 @@
 -- Assumes nothing.
 use Prim.Native.Nat.{ℕ, suc, _+_, _*_, _<_, _≤_}
 use mathlib.Core.Path.{_≡_, refl, sym, ap, _∙_, subst}
-use mathlib.Core.Bool.{Bool, true, false, cond}
+use mathlib.Core.Bool.{true, false, cond}
 use mathlib.Core.List.{List, [], _∷_, _++_, append-nil}
 use mathlib.Core.Option.{Option, none, some}
 use native.Mathlib.Omega.{arith}
@@ -13,14 +13,13 @@ use native.Mathlib.Decide.{ℕ-discrete}
 use lib.Dec.{eqb}
 use lib.ListN.{length, take, drop, length-append}
 use lib.Seq.{length-take-le}
-use borrow.Author.Tests.{eqb-true, eqb-false, eq-eqb, ne-eqb}
-use Rattle.answer.specs.Answer.{Answer, refused, answered}
+use borrow.Author.Tests.{eq-eqb, ne-eqb}
 use Rattle.tray.specs.Tray.{lengthAt, free, sheetAt, heldIn}
 use Rattle.tray.proofs.Laws.Places.{held-long, Held, held-found, SamePlace, held-others, same-length-at, same-free, same-sheet}
 use Rattle.pending.specs.Pending.{pendingEntries, sheetOf}
 use Rattle.pending.proofs.Laws.Sending.{sheet-long, sheet-most}
 use Rattle.desk.specs.declared.Desk.{Desk}
-use Rattle.desk.specs.Answers.{Value, sent, Done}
+use Rattle.desk.specs.Answers.{sent, Done}
 use Rattle.desk.specs.Calls.{sendRules, sentDesk, sendOf}
 use Rattle.runs.specs.Run.{Sheet, sheetOn, sheetLeft}
 use Rattle.runs.proofs.Laws.Steps.{by-call}

@@ -5,10 +5,9 @@
 -- Assumes nothing.
 use Prim.Native.Nat.{ℕ, _+_, _*_, _-_, _≤_, _<_}
 use mathlib.Core.Path.{_≡_, refl, sym, ap, _∙_, subst}
-use mathlib.Core.Bool.{Bool, true, false, cond, not}
+use mathlib.Core.Bool.{Bool, true, false, cond}
 use mathlib.Core.List.{List, [], _∷_, _++_}
 use native.Mathlib.Omega.{arith}
-use lib.Dec.{eqb}
 use lib.ListN.{length, take, drop, replicate, length-append}
 use lib.Seq.{length-take-le}
 use mir.Syntax.{w8}
@@ -29,7 +28,7 @@ use Rattle.runs.specs.Run.{Sheet, sheetLeft}
 use Rattle.runs.proofs.Laws.Steps.{by-call}
 use Rattle.acting.specs.declared.Act.{Act}
 use Rattle.acting.specs.declared.Act.the-variants as act
-use Rattle.acting.specs.Said.{Said, answers, nothingSent, badLine}
+use Rattle.acting.specs.Said.{answers, nothingSent, badLine}
 use Rattle.play.specs.Steps.{sheetRoom}
 use Rattle.play.specs.Parts.{Making, making, byCall, byTray, lengthSent, latestWith, bySend, noCall, delivered, makeOf, saidFor, LatestFit, LatestFits, SenderThere}
 

@@ -1,19 +1,16 @@
 -- The loop of `run` (src/running.rt): what is printed so far, with what the lines from here on print, is the whole.
---   Does, does, Idle, idle               what is known of the code's step, by what it says
---   line-here, lines-left                the line at a place: what it prints, and how many are left behind it
---   RunSoFar, run-begun, Turn, run-ended     the loop
+--   line-laid, line-end                  a line that was printed, where it has room
+--   RunSoFar, run-begun, run-ended       the loop, its start and its end
+--   desk-few, sender-few, tray-end, end-within, further-on     what the calls in a turn ask for
+--   run-turned                           a turn
 -- Assumes nothing.
 use Prim.Native.Nat.{ℕ, suc, _+_, _*_, _-_, _<_, _≤_}
 use mathlib.Core.Path.{_≡_, refl, sym, ap, _∙_, subst}
-use mathlib.Core.Bool.{Bool, true, false, cond, not}
-use mathlib.Core.List.{List, [], _∷_, _++_, append-assoc, append-nil}
+use mathlib.Core.List.{List, [], _++_, append-assoc, append-nil}
 use mathlib.Core.Option.{Option, none, some}
 use native.Mathlib.Omega.{arith}
-use lib.Dec.{ltb, leb}
-use lib.ListN.{length, getD, set, take, drop, replicate, length-append, take-append-drop}
-use lib.Seq.{drop-length}
-use borrow.Author.Tests.{ltb-true, ltb-false, lt-ltb, le-leb}
-use Rattle.content.specs.declared.Content.{Content}
+use lib.ListN.{length, getD, set, take, drop, length-append, take-append-drop}
+use borrow.Author.Tests.{le-leb}
 use Rattle.laying.specs.Laying.{laidOver}
 use Rattle.laying.proofs.Laws.{laid, laid-behind}
 use Rattle.tray.proofs.Laws.Parts.{laid-long}
@@ -22,128 +19,21 @@ use Rattle.desk.specs.declared.Outcome.{Outcome}
 use Rattle.desk.specs.Answers.{said}
 use Rattle.runs.specs.Run.{State, start}
 use Rattle.text.specs.Parts.{firstPart, lineFeed}
-use Rattle.text.proofs.Laws.Parts.{part-within}
 use Rattle.acting.specs.declared.Act.{Act}
 use Rattle.acting.specs.declared.Act.the-variants as act
 use Rattle.acting.specs.declared.Said as declared-said
 use Rattle.acting.specs.declared.Step as declared
 use Rattle.acting.specs.Step.{Step, saidAct, saidStep}
-use Rattle.acting.specs.Step as spec
-use Rattle.acting.specs.Said.{Said, badLine, saying}
-use Rattle.schedule.specs.Lines.{Line, ended, cut, linesOf}
-use Rattle.schedule.specs.Step.{stepIn}
-use Rattle.schedule.proofs.Laws.Lines.{no-lines, line-taken, line-ended, line-cut}
-use Rattle.schedule.proofs.Laws.Steps.{desk-is-there, sender-is-there, no-step-of-cut}
+use Rattle.acting.specs.Said.{Said, saying}
+use Rattle.schedule.specs.Lines.{Line, ended, linesOf}
+use Rattle.schedule.proofs.Laws.Steps.{desk-is-there, sender-is-there}
 use Rattle.printing.specs.Printing.{Wrote, wrote, lineText}
-use Rattle.play.specs.Steps.{saidOf, afterStep}
+use Rattle.play.specs.Steps.{afterStep}
 use Rattle.play.specs.Rounds.{stepText, stepsText}
-use Rattle.play.specs.Parts.{Making, making, makeOf, saidFor, SenderThere, noDesk, AllOpened, clearTrays, noSheets, stepAt, deskBy, deskFor, nextAt, Runs, runOf}
+use Rattle.play.specs.Parts.{making, makeOf, saidFor, SenderThere, noDesk, AllOpened, clearTrays, noSheets, stepAt, deskFor, nextAt, Runs, runOf}
 use Rattle.play.proofs.Laws.Trays.{trayIn, tray-room, spliced}
-use Rattle.play.proofs.Laws.Standing.{Stands, stands-at-start, Follows, follows, nothing-done}
-
--- ---- the code's step
-
--- it does what this step says
-pub record Does (p end size : ℕ) (a : Act) (step : Step) : Type 0 where
-  pub desk-is : deskBy p a ≡ step .desk
-  pub says : saidAct (deskBy p a) a ≡ some step
-  pub next-is : nextAt a end size ≡ end + 1
-  pub sender : (n : ℕ) → ((q : ℕ) → step .act ≡ spec.delivers q → q < n) → SenderThere n a
-
--- it does nothing, and the run ends
-pub record Idle (p end size : ℕ) (a : Act) : Type 0 where
-  pub desk-is : deskBy p a ≡ 0
-  pub says : saidAct (deskBy p a) a ≡ none
-  pub next-is : nextAt a end size ≡ size
-  pub sender : (n : ℕ) → SenderThere n a
-
-module _ (p end size : ℕ) where
-  -- by what it says
-  abbrev Tells : Act → Option Step → Type 0
-  Tells a none = Idle p end size a
-  Tells a (some step) = Does p end size a step
-
-  pub tells : (a : Act) → Tells a (saidAct p a)
-  tells (act.Write cell c) = record { desk-is = refl; says = refl; next-is = refl; sender = λ n there. tt }
-  tells (act.Read cell) = record { desk-is = refl; says = refl; next-is = refl; sender = λ n there. tt }
-  tells act.Send = record { desk-is = refl; says = refl; next-is = refl; sender = λ n there. tt }
-  tells (act.Deliver q) = record { desk-is = refl; says = refl; next-is = refl; sender = λ n there. there q refl }
-  tells act.Take = record { desk-is = refl; says = refl; next-is = refl; sender = λ n there. tt }
-  tells act.Bad = record { desk-is = refl; says = refl; next-is = refl; sender = λ n. tt }
-
-  pub does : (a : Act) (step : Step) → saidAct p a ≡ some step → Does p end size a step
-  does a step e = subst (Tells a) e (tells a)
-
-  pub idle : (a : Act) → saidAct p a ≡ none → Idle p end size a
-  idle a e = subst (Tells a) e (tells a)
-
--- ---- the line at a place
-
-none-is-not-some : {A : Type 0} {x : A} → _≡_ {A = Option A} none (some x) → ⊥
-none-is-not-some {A} e = subst is-none e tt
-  where
-    is-none : Option A → Type 0
-    is-none none = Unit {0}
-    is-none (some y) = ⊥
-
-module _ (n : ℕ) (input : List ℕ) (i end : ℕ) (before : i < length input) (ends : end ≡ i + length (firstPart lineFeed (drop i input))) where
-  within : end ≤ length input
-  within = let at-most = part-within lineFeed input i (omega arith) in omega arith
-
-  -- the rest of the lines, where a line feed ends this one
-  pub ended-here : end < length input → linesOf (drop i input) ≡ ended (take (end - i) (drop i input)) ∷ linesOf (drop (end + 1) input)
-  ended-here h =
-      line-ended input i (omega arith)
-      ∙ ap (λ (l : List ℕ). ended l ∷ linesOf (drop (i + length (firstPart lineFeed (drop i input)) + 1) input)) (line-taken input i)
-      ∙ ap (λ (e : ℕ). ended (take (e - i) (drop i input)) ∷ linesOf (drop (e + 1) input)) (sym ends)
-
-  pub cut-here : length input ≤ end → linesOf (drop i input) ≡ cut (drop i input) ∷ []
-  cut-here h = line-cut input i before (omega (arith, within))
-
-  pub line-here : (k : ℕ) (s : State)
-      → stepsText n k s (linesOf (drop i input)) ≡ stepText k s (stepAt n input i end) (λ t. stepsText n (k + 1) t (linesOf (drop (end + 1) input)))
-  unfolding stepsText
-  line-here k s = by-test (ltb end (length input)) refl
-    where
-      by-test : (b : Bool) → ltb end (length input) ≡ b
-          → stepsText n k s (linesOf (drop i input))
-          ≡ stepText k s (cond (ltb end (length input)) (stepIn n (ended (take (end - i) (drop i input)))) none) (λ t. stepsText n (k + 1) t (linesOf (drop (end + 1) input)))
-      by-test true e = rw e (ap (stepsText n k s) (ended-here (ltb-true end (length input) e)))
-      by-test false e =
-          rw e
-          (ap (stepsText n k s) (cut-here (ltb-false end (length input) e))
-          ∙ ap (λ (o : Option Step). stepText k s o (λ t. stepsText n (k + 1) t [])) (no-step-of-cut n (drop i input)))
-
-  -- a step's line is ended, and behind it there is one line less
-  pub record Behind (step : Step) : Type 0 where
-    pub ended-line : end < length input
-    pub says : stepIn n (ended (take (end - i) (drop i input))) ≡ some step
-    pub one-less : length (linesOf (drop i input)) ≡ suc (length (linesOf (drop (end + 1) input)))
-
-  pub behind : (step : Step) → stepAt n input i end ≡ some step → Behind step
-  behind step e = by-test (ltb end (length input)) refl
-    where
-      by-test : (b : Bool) → ltb end (length input) ≡ b → Behind step
-      by-test true t =
-          let h : end < length input = ltb-true end (length input) t in
-          record {
-            ended-line = h;
-            says = sym (ap (λ (b : Bool). cond b (stepIn n (ended (take (end - i) (drop i input)))) none) t) ∙ e;
-            one-less = ap (λ (ls : List Line). length ls) (ended-here h);
-          }
-      by-test false t = absurd (none-is-not-some (sym (ap (λ (b : Bool). cond b (stepIn n (ended (take (end - i) (drop i input)))) none) t) ∙ e))
-
-  -- there is a line here
-  pub one-line : 1 ≤ length (linesOf (drop i input))
-  one-line = by-test (ltb end (length input)) refl
-    where
-      by-test : (b : Bool) → ltb end (length input) ≡ b → 1 ≤ length (linesOf (drop i input))
-      by-test true t = let more = ap (λ (ls : List Line). length ls) (ended-here (ltb-true end (length input) t)) in omega arith
-      by-test false t = let last = ap (λ (ls : List Line). length ls) (cut-here (ltb-false end (length input) t)) in omega arith
-
--- behind the input there is none
-pub none-behind : (input : List ℕ) → linesOf (drop (length input) input) ≡ []
-none-behind input = ap linesOf (drop-length input) ∙ no-lines
+use Rattle.play.proofs.Laws.Standing.{Stands, stands-at-start, follows, nothing-done}
+use Rattle.play.proofs.Laws.Lines.{does, idle, within, line-here, behind, one-line, none-behind}
 
 -- ---- a line that was printed
 
@@ -312,70 +202,64 @@ module _ (input : List ℕ) (from n m mode : ℕ) (out₀ : List ℕ) (at : ℕ)
         abbrev Next : Type 0
         Next = RunSoFar input from n m mode out₀ at size out′ (set ds p (o .desk)) trays′ latest′ i′ w′ (k + 1)
 
-        by-step : (st : Step) → stepAt n input i end ≡ some st → Next
-        by-step st e =
-            let d = does (step .desk) end (length input) a st (says ∙ e) in
-            let b = behind n input i end before ends st e in
-            let p-says : saidAct p a ≡ some st = ap (λ (q : ℕ). saidAct q a) own ∙ d .says in
-            let f = follows (so .few-desks) (so .stands) desk-there (getD ds p noDesk) refl (take (p * size + size - p * size) (drop (p * size) trays)) lent-is a (making o tray′ latest′) made sender-there st p-says in
-            let on : i′ ≡ end + 1 = goes-on ∙ d .next-is in
-            let left : length (linesOf (drop i′ input)) ≡ length (linesOf (drop (end + 1) input)) = ap (λ (z : ℕ). length (linesOf (drop z input))) on in
-            let next-state : State = afterStep (so .state) st in
+        -- the state then, and what the line has printed of the text
+        turned : (t : State) → length tray′ ≡ 398 * n → Stands n t (set ds p (o .desk)) (laidOver trays (p * (398 * n)) tray′) latest′
+            → i′ ≤ length input
+            → stepText k (so .state) (stepAt n input i end) (λ u. stepsText n (k + 1) u (linesOf (drop (end + 1) input))) ≡ line ++ stepsText n (k + 1) t (linesOf (drop i′ input))
+            → suc (length (linesOf (drop i′ input))) ≤ length (linesOf (drop i input))
+            → Next
+        turned t long stands inside prints less =
             record {
               some-desks = so .some-desks;
               few-desks = so .few-desks;
               few-bytes = so .few-bytes;
               size-is = so .size-is;
-              state = next-state;
-              stands = subst (λ (t : List ℕ). Stands n next-state (set ds p (o .desk)) t latest′) (sym (trays-laid (f .as-long))) (f .stands);
-              within-input = omega (arith, on, b .ended-line);
+              state = t;
+              stands = subst (λ (l : List ℕ). Stands n t (set ds p (o .desk)) l latest′) (sym (trays-laid long)) stands;
+              within-input = inside;
               done = so .done ++ line;
               out-is = longer;
               place = further;
               whole =
-                  so .whole
-                  ∙ ap (λ (l : List ℕ). so .done ++ l)
-                  (line-here n input i end before ends k (so .state)
-                  ∙ ap (λ (g : Option Step). stepText k (so .state) g (λ t. stepsText n (k + 1) t (linesOf (drop (end + 1) input)))) e
-                  ∙ ap (λ (v : Said). lineText k v ++ stepsText n (k + 1) next-state (linesOf (drop (end + 1) input))) (sym (says-so ∙ f .said-is))
-                  ∙ ap (λ (z : ℕ). line ++ stepsText n (k + 1) next-state (linesOf (drop z input))) (sym on))
-                  ∙ sym (append-assoc (so .done) line (stepsText n (k + 1) next-state (linesOf (drop i′ input))));
-              room = omega (arith, near, left, b .one-less, so .room);
-              few-lines = omega (arith, left, b .one-less, so .few-lines);
+              so .whole
+              ∙ ap (λ (l : List ℕ). so .done ++ l) (line-here n input i end before ends k (so .state) ∙ prints)
+              ∙ sym (append-assoc (so .done) line (stepsText n (k + 1) t (linesOf (drop i′ input))));
+              room = omega (arith, near, less, so .room);
+              few-lines = omega (arith, less, so .few-lines);
             }
+
+        -- what the code's step is made on
+        abbrev lent : List ℕ
+        lent = take (p * size + size - p * size) (drop (p * size) trays)
+
+        by-step : (st : Step) → stepAt n input i end ≡ some st → Next
+        by-step st e =
+            let d = does (step .desk) end (length input) a st (says ∙ e) in
+            let b = behind n input i end before ends st e in
+            let p-says : saidAct p a ≡ some st = ap (λ (q : ℕ). saidAct q a) own ∙ d .says in
+            let f = follows (so .few-desks) (so .stands) desk-there (getD ds p noDesk) refl lent lent-is a (making o tray′ latest′) made sender-there st p-says in
+            let on : i′ ≡ end + 1 = goes-on ∙ d .next-is in
+            let left : length (linesOf (drop i′ input)) ≡ length (linesOf (drop (end + 1) input)) = ap (λ (z : ℕ). length (linesOf (drop z input))) on in
+            turned (afterStep (so .state) st) (f .as-long) (f .stands) (omega (arith, on, b .ended-line))
+            (ap (λ (g : Option Step). stepText k (so .state) g (λ t. stepsText n (k + 1) t (linesOf (drop (end + 1) input)))) e
+            ∙ ap (λ (v : Said). lineText k v ++ stepsText n (k + 1) (afterStep (so .state) st) (linesOf (drop (end + 1) input))) (sym (says-so ∙ f .said-is))
+            ∙ ap (λ (z : ℕ). line ++ stepsText n (k + 1) (afterStep (so .state) st) (linesOf (drop z input))) (sym on))
+            (omega (arith, left, b .one-less))
 
         by-none : stepAt n input i end ≡ none → Next
         unfolding stepsText
         by-none e =
             let d = idle (step .desk) end (length input) a (says ∙ e) in
             let p-says : saidAct p a ≡ none = ap (λ (q : ℕ). saidAct q a) own ∙ d .says in
-            let f = nothing-done (so .few-desks) (so .stands) desk-there (getD ds p noDesk) refl (take (p * size + size - p * size) (drop (p * size) trays)) lent-is a (making o tray′ latest′) made p-says in
+            let f = nothing-done (so .few-desks) (so .stands) desk-there (getD ds p noDesk) refl lent lent-is a (making o tray′ latest′) made p-says in
             let on : i′ ≡ length input = goes-on ∙ d .next-is in
             let none-left : linesOf (drop i′ input) ≡ [] = ap (λ (z : ℕ). linesOf (drop z input)) on ∙ none-behind input in
-            let left : length (linesOf (drop i′ input)) ≡ 0 = ap (λ (ls : List Line). length ls) none-left in
-            record {
-              some-desks = so .some-desks;
-              few-desks = so .few-desks;
-              few-bytes = so .few-bytes;
-              size-is = so .size-is;
-              state = so .state;
-              stands = subst (λ (t : List ℕ). Stands n (so .state) (set ds p (o .desk)) t latest′) (sym (trays-laid (f .as-long))) (f .stands);
-              within-input = omega (arith, on);
-              done = so .done ++ line;
-              out-is = longer;
-              place = further;
-              whole =
-                  so .whole
-                  ∙ ap (λ (l : List ℕ). so .done ++ l)
-                  (line-here n input i end before ends k (so .state)
-                  ∙ ap (λ (g : Option Step). stepText k (so .state) g (λ t. stepsText n (k + 1) t (linesOf (drop (end + 1) input)))) e
-                  ∙ ap (lineText k) (sym (says-so ∙ f .said-is))
-                  ∙ sym (append-nil line)
-                  ∙ ap (λ (ls : List Line). line ++ stepsText n (k + 1) (so .state) ls) (sym none-left))
-                  ∙ sym (append-assoc (so .done) line (stepsText n (k + 1) (so .state) (linesOf (drop i′ input))));
-              room = omega (arith, near, left, so .room, one-line n input i end before ends);
-              few-lines = omega (arith, left, so .few-lines, one-line n input i end before ends);
-            }
+            turned (so .state) (f .as-long) (f .stands) (omega (arith, on))
+            (ap (λ (g : Option Step). stepText k (so .state) g (λ t. stepsText n (k + 1) t (linesOf (drop (end + 1) input)))) e
+            ∙ ap (lineText k) (sym (says-so ∙ f .said-is))
+            ∙ sym (append-nil line)
+            ∙ ap (λ (ls : List Line). line ++ stepsText n (k + 1) (so .state) ls) (sym none-left))
+            (omega (arith, ap (λ (ls : List Line). length ls) none-left, one-line n input i end before ends))
 
         pub run-turned : RunSoFar input from n m mode out₀ at size out′ (set ds p (o .desk)) (take (p * size) trays ++ (tray′ ++ drop (p * size + size - p * size) (drop (p * size) trays))) latest′ i′ w′ (k + 1)
         run-turned = either (stepAt n input i end) refl

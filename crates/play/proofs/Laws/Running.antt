@@ -3,18 +3,17 @@
 --   OpenedSoFar, openings                 the loop that opens the desks, and its laws as a set for `search`
 --   steps-at, nexts                       sets for `search`: `step_at` and `next`
 -- Assumes nothing.
-use Prim.Native.Nat.{ℕ, suc, _+_, _-_, _<_, _≤_}
-use mathlib.Core.Path.{_≡_, refl, sym, ap, _∙_, subst}
-use mathlib.Core.Bool.{Bool, true, false, cond, not, _||_}
+use Prim.Native.Nat.{ℕ, _+_, _-_, _<_, _≤_}
+use mathlib.Core.Path.{_≡_, refl, sym, ap, _∙_}
+use mathlib.Core.Bool.{Bool, cond, not, _||_}
 use mathlib.Core.List.{List, []}
-use mathlib.Core.Option.{Option, none}
+use mathlib.Core.Option.{none}
 use native.Mathlib.Omega.{arith}
 use native.Mathlib.Decide.{ℕ-discrete}
 use lib.Dec.{eqb, ltb}
-use lib.ListN.{length, getD, set, take, drop, replicate, length-set, length-replicate, getD-replicate}
+use lib.ListN.{length, getD, set, take, drop, replicate, length-set, length-replicate}
 use lib.Seq.{getD-set-same, getD-set-other}
 use borrow.Author.Tests.{le-ltb, lt-ltb, ne-eqb}
-use Rattle.answer.specs.Promises.{Silent}
 use Rattle.content.specs.declared.Content.{Content}
 use Rattle.desk.specs.declared.Desk.{Desk}
 use Rattle.desk.specs.declared.Outcome.{Outcome}

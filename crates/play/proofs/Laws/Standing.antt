@@ -5,36 +5,35 @@
 -- Assumes nothing.
 use Prim.Native.Nat.{ℕ, zero, suc, _+_, _*_, _<_, _≤_}
 use mathlib.Core.Path.{_≡_, refl, sym, ap, _∙_, subst}
-use mathlib.Core.Bool.{Bool, true, false, cond}
-use mathlib.Core.List.{List, [], _∷_, _++_, append-nil}
+use mathlib.Core.Bool.{Bool, cond}
+use mathlib.Core.List.{List, []}
 use mathlib.Core.Option.{Option, none, some}
 use native.Mathlib.Omega.{arith}
 use native.Mathlib.Decide.{ℕ-discrete}
-use lib.ListN.{length, getD, set, take, drop, replicate, length-set, length-drop, length-replicate}
+use lib.ListN.{length, getD, set, drop, replicate, length-set, length-drop, length-replicate}
 use lib.Seq.{length-take-le, getD-set-same, getD-set-other}
 use borrow.Author.Tests.{eq-eqb}
-use Rattle.answer.specs.Answer.{Answer, answered}
-use Rattle.content.specs.declared.Content.{Content}
+use Rattle.answer.specs.Answer.{answered}
 use Rattle.numbers.specs.Numbers.{at1}
 use Rattle.laying.specs.Laying.{laidOver}
-use Rattle.tray.specs.Tray.{lengthAt, free, sheetAt}
+use Rattle.tray.specs.Tray.{lengthAt}
 use Rattle.tray.proofs.Laws.Parts.{laid-long}
 use Rattle.desk.specs.declared.Desk.{Desk}
-use Rattle.desk.specs.Answers.{Value, held, Done}
-use Rattle.desk.specs.Calls.{openOf, writeOf, readOf, sendOf, deliverOf, takeOf}
+use Rattle.desk.specs.Answers.{held, Done}
+use Rattle.desk.specs.Calls.{writeOf, readOf, sendOf, deliverOf, takeOf}
 use Rattle.keeping.proofs.Laws.Deliver.{deliver-long}
 use Rattle.keeping.proofs.Laws.Take.{take-long}
-use Rattle.runs.specs.Calls.{Call, document01}
+use Rattle.runs.specs.Calls.{document01}
 use Rattle.runs.specs.Calls as calls
-use Rattle.runs.specs.Run.{Shelf, Sheet, State, sheetOn, sheetNo, start, made, put, sheetLeft, after}
+use Rattle.runs.specs.Run.{Shelf, Sheet, State, sheetNo, start, made, put, after}
 use Rattle.runs.proofs.Laws.Steps.{put-same, put-other, put-own}
 use Rattle.acting.specs.declared.Act.{Act}
 use Rattle.acting.specs.declared.Act.the-variants as act
 use Rattle.acting.specs.Step.{Step, saidAct}
 use Rattle.acting.specs.Step as spec
-use Rattle.acting.specs.Said.{Said, answers, nothingSent, badLine}
+use Rattle.acting.specs.Said.{answers, nothingSent, badLine}
 use Rattle.play.specs.Steps.{sheetRoom, latestFrom, latestOf, deliversLatest, saidBy, afterBy, saidOf, afterStep}
-use Rattle.play.specs.Parts.{Making, byCall, byTray, bySend, noCall, latestWith, delivered, makeOf, saidFor, SenderThere, noDesk, AllOpened}
+use Rattle.play.specs.Parts.{Making, byTray, noCall, makeOf, saidFor, SenderThere, noDesk, AllOpened}
 use Rattle.play.proofs.Laws.Latest.{LatestIs, none-yet, sheet-there, Kept, kept-send}
 use Rattle.play.proofs.Laws.Trays.{trayIn, tray-room, tray-same, tray-other, tray-zeros}
 

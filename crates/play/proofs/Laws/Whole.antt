@@ -3,16 +3,16 @@
 --   mode-most, can-run, shelf-played  `play_shelf`
 --   plays                             a set for `search`: `play`
 -- Assumes nothing.
-use Prim.Native.Nat.{ℕ, _+_, _*_, _-_, _<_, _≤_}
+use Prim.Native.Nat.{ℕ, _+_, _-_, _<_, _≤_}
 use mathlib.Core.Path.{_≡_, refl, sym, ap, _∙_, subst}
 use mathlib.Core.Bool.{Bool, true, false, cond, _||_}
 use mathlib.Core.List.{List, [], _∷_, _++_}
-use mathlib.Core.Option.{Option, none, some}
+use mathlib.Core.Option.{Option}
 use native.Mathlib.Omega.{arith}
-use lib.Dec.{eqb, ltb}
+use lib.Dec.{ltb}
 use lib.ListN.{length, take, drop, length-append}
 use lib.Seq.{length-take-le}
-use borrow.Author.Tests.{ltb-false, eq-eqb, ne-eqb, le-leb}
+use borrow.Author.Tests.{ltb-false, eq-eqb, ne-eqb}
 use Rattle.laying.specs.Laying.{laidOver}
 use Rattle.laying.proofs.Laws.{laid-behind}
 use Rattle.tray.proofs.Laws.Parts.{laid-long}
@@ -22,15 +22,16 @@ use Rattle.desk.proofs.Laws.Allowed.{OpenAllowed, open-allows}
 use Rattle.runs.proofs.Laws.Steps.{by-call}
 use Rattle.text.specs.Text.{text}
 use Rattle.text.specs.Parts.{firstPart, lineFeed}
-use Rattle.schedule.specs.Lines.{Line, ended, cut, linesOf}
+use Rattle.schedule.specs.Lines.{Line, ended, linesOf}
 use Rattle.schedule.specs.Start.{Start, startIn, saidStart}
 use Rattle.schedule.specs.declared.Start as declared
 use Rattle.schedule.specs.declared.Start.the-variants as cases
 use Rattle.schedule.proofs.Laws.Lines.{no-lines}
-use Rattle.printing.specs.Printing.{Wrote, wrote, headerText}
+use Rattle.printing.specs.Printing.{wrote, headerText}
 use Rattle.play.specs.Rounds.{tooLong, isAnswered, opens, badStart, runText, linesText, printed, Prints}
 use Rattle.play.specs.Parts.{Runs, runOf, Plays, shelfText}
-use Rattle.play.proofs.Laws.Playing.{ended-here, cut-here, line-laid, line-end}
+use Rattle.play.proofs.Laws.Lines.{ended-here, cut-here}
+use Rattle.play.proofs.Laws.Playing.{line-laid, line-end}
 
 -- ---- the mode
 

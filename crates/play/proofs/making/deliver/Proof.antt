@@ -2,10 +2,6 @@ use borrow.Author.Needs.{needs}
 use Rattle.play.proofs.Laws.Making.{delivering}
 use Rattle.play.proofs.making.deliver.Statement.{statement}
 use Rattle.play.proofs.making.deliver.Tie as tie
-use Rattle.play.proofs.making.deliver.Reads as reads
-use Rattle.play.proofs.making.deliver.Lts as lts
-use Rattle.desk.proofs.Desk.deliver.Reads as deliver-reads
-use Rattle.tray.proofs.length_at.Reads as length-at-reads
 
 -- src/making.rt:69:15
 length-at-requires : tie.Need-length-at-requires

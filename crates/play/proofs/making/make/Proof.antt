@@ -2,13 +2,6 @@ use borrow.Author.Needs.{needs}
 use Rattle.play.proofs.Laws.Making.{makes}
 use Rattle.play.proofs.making.make.Statement.{statement}
 use Rattle.play.proofs.making.make.Tie as tie
-use Rattle.play.proofs.making.make.Reads as reads
-use Rattle.play.proofs.making.make.Lts as lts
-use Rattle.desk.proofs.Desk.read.Reads as read-reads
-use Rattle.desk.proofs.Desk.take.Reads as take-reads
-use Rattle.desk.proofs.Desk.write.Reads as write-reads
-use Rattle.play.proofs.making.deliver.Reads as deliver-reads
-use Rattle.play.proofs.making.send.Reads as send-reads
 
 -- src/making.rt:88:22
 enum-known-act : tie.Need-enum-known-act

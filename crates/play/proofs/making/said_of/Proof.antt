@@ -2,9 +2,6 @@ use borrow.Author.Needs.{needs}
 use Rattle.play.proofs.Laws.Making.{saying-of}
 use Rattle.play.proofs.making.said_of.Statement.{statement}
 use Rattle.play.proofs.making.said_of.Tie as tie
-use Rattle.play.proofs.making.said_of.Reads as reads
-use Rattle.play.proofs.making.said_of.Lts as lts
-use Rattle.tray.proofs.is_free.Reads as is-free-reads
 
 -- src/making.rt:109:14
 enum-told : tie.Need-enum-told

@@ -2,12 +2,6 @@ use borrow.Author.Needs.{needs}
 use Rattle.play.proofs.Laws.Making.{sends, send-kept}
 use Rattle.play.proofs.making.send.Statement.{statement}
 use Rattle.play.proofs.making.send.Tie as tie
-use Rattle.play.proofs.making.send.Reads as reads
-use Rattle.play.proofs.making.send.Lts as lts
-use Rattle.desk.proofs.Desk.send.Reads as send-reads
-use Rattle.play.proofs.making.sheet_length.Reads as sheet-length-reads
-use Rattle.play.proofs.making.sheet_room.Reads as sheet-room-reads
-use Rattle.tray.proofs.hold.Reads as hold-reads
 
 -- src/making.rt:53:21
 sheet-room-requires : tie.Need-sheet-room-requires

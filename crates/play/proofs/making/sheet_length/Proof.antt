@@ -2,8 +2,6 @@ use borrow.Author.Needs.{needs}
 use Rattle.play.proofs.Laws.Making.{sent-length}
 use Rattle.play.proofs.making.sheet_length.Statement.{statement}
 use Rattle.play.proofs.making.sheet_length.Tie as tie
-use Rattle.play.proofs.making.sheet_length.Reads as reads
-use Rattle.play.proofs.making.sheet_length.Lts as lts
 
 -- src/making.rt:21:33
 enum-known-a : tie.Need-enum-known-a

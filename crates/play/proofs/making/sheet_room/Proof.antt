@@ -1,8 +1,6 @@
 use Rattle.play.proofs.Laws.Making.{room-is}
 use Rattle.play.proofs.making.sheet_room.Statement.{statement}
 use Rattle.play.proofs.making.sheet_room.Tie as tie
-use Rattle.play.proofs.making.sheet_room.Reads as reads
-use Rattle.play.proofs.making.sheet_room.Lts as lts
 
 -- src/making.rt:43:1
 returns : tie.Need-returns

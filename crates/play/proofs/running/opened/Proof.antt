@@ -2,7 +2,6 @@
 -- Assumes nothing.
 use borrow.Author.Needs.{needs}
 use Prim.Native.Nat.{_-_}
-use native.Mathlib.Omega.{arith}
 use Rattle.play.proofs.Laws.Running.{OpenedSoFar, openings}
 use Rattle.play.proofs.running.opened.Statement.{statement}
 use Rattle.play.proofs.running.opened.Tie as tie

@@ -5,18 +5,6 @@ use lib.ListN.{length}
 use Rattle.play.proofs.Laws.Playing.{RunSoFar, run-begun, run-ended, out-long, desk-few, sender-few, tray-end, end-within, further-on, run-turned}
 use Rattle.play.proofs.running.run.Statement.{statement}
 use Rattle.play.proofs.running.run.Tie as tie
-use Rattle.play.proofs.running.run.Reads as reads
-use Rattle.play.proofs.running.run.Lts as lts
-use Rattle.play.proofs.making.make.Reads as make-reads
-use Rattle.play.proofs.making.said_of.Reads as said-of-reads
-use Rattle.play.proofs.running.clear_trays.Reads as clear-trays-reads
-use Rattle.play.proofs.running.desk_of.Reads as desk-of-reads
-use Rattle.play.proofs.running.next.Reads as next-reads
-use Rattle.play.proofs.running.no_sheets.Reads as no-sheets-reads
-use Rattle.play.proofs.running.opened.Reads as opened-reads
-use Rattle.play.proofs.running.step_at.Reads as step-at-reads
-use Rattle.printing.proofs.put_line.Reads as put-line-reads
-use Rattle.text.proofs.part_end.Reads as part-end-reads
 
 abbrev Inv-loop : tie.InvT-loop
 Inv-loop input from n m mode out₀ at ds₀ trays₀ latest₀ size i₀ w₀ k₀ out ds trays latest i w k = RunSoFar input from n m mode out₀ at size out ds trays latest i w k

@@ -1,0 +1,132 @@
+-- One line of a schedule: what is known of the code's step, and what the line at a place prints.
+--   Does, does, Idle, idle               what is known of the code's step, by what it says
+--   line-here                            the line at a place: what it prints, and the rest
+--   Behind, behind, one-line, none-behind     how many lines are left behind it
+-- Assumes nothing.
+use Prim.Native.Nat.{ℕ, suc, _+_, _-_, _<_, _≤_}
+use mathlib.Core.Path.{_≡_, refl, sym, ap, _∙_, subst}
+use mathlib.Core.Bool.{Bool, true, false, cond}
+use mathlib.Core.List.{List, [], _∷_}
+use mathlib.Core.Option.{Option, none, some}
+use native.Mathlib.Omega.{arith}
+use lib.Dec.{ltb}
+use lib.ListN.{length, take, drop}
+use lib.Seq.{drop-length}
+use borrow.Author.Tests.{ltb-true, ltb-false}
+use Rattle.runs.specs.Run.{State}
+use Rattle.text.specs.Parts.{firstPart, lineFeed}
+use Rattle.text.proofs.Laws.Parts.{part-within}
+use Rattle.acting.specs.declared.Act.{Act}
+use Rattle.acting.specs.declared.Act.the-variants as act
+use Rattle.acting.specs.Step.{Step, saidAct}
+use Rattle.acting.specs.Step as spec
+use Rattle.schedule.specs.Lines.{Line, ended, cut, linesOf}
+use Rattle.schedule.specs.Step.{stepIn}
+use Rattle.schedule.proofs.Laws.Lines.{no-lines, line-taken, line-ended, line-cut}
+use Rattle.schedule.proofs.Laws.Steps.{no-step-of-cut}
+use Rattle.play.specs.Rounds.{stepText, stepsText}
+use Rattle.play.specs.Parts.{SenderThere, stepAt, deskBy, nextAt}
+
+-- ---- the code's step
+
+-- it does what this step says
+pub record Does (p end size : ℕ) (a : Act) (step : Step) : Type 0 where
+  pub desk-is : deskBy p a ≡ step .desk
+  pub says : saidAct (deskBy p a) a ≡ some step
+  pub next-is : nextAt a end size ≡ end + 1
+  pub sender : (n : ℕ) → ((q : ℕ) → step .act ≡ spec.delivers q → q < n) → SenderThere n a
+
+-- it does nothing, and the run ends
+pub record Idle (p end size : ℕ) (a : Act) : Type 0 where
+  pub desk-is : deskBy p a ≡ 0
+  pub says : saidAct (deskBy p a) a ≡ none
+  pub next-is : nextAt a end size ≡ size
+  pub sender : (n : ℕ) → SenderThere n a
+
+module _ (p end size : ℕ) where
+  -- by what it says
+  abbrev Tells : Act → Option Step → Type 0
+  Tells a none = Idle p end size a
+  Tells a (some step) = Does p end size a step
+
+  pub tells : (a : Act) → Tells a (saidAct p a)
+  tells (act.Write cell c) = record { desk-is = refl; says = refl; next-is = refl; sender = λ n there. tt }
+  tells (act.Read cell) = record { desk-is = refl; says = refl; next-is = refl; sender = λ n there. tt }
+  tells act.Send = record { desk-is = refl; says = refl; next-is = refl; sender = λ n there. tt }
+  tells (act.Deliver q) = record { desk-is = refl; says = refl; next-is = refl; sender = λ n there. there q refl }
+  tells act.Take = record { desk-is = refl; says = refl; next-is = refl; sender = λ n there. tt }
+  tells act.Bad = record { desk-is = refl; says = refl; next-is = refl; sender = λ n. tt }
+
+  pub does : (a : Act) (step : Step) → saidAct p a ≡ some step → Does p end size a step
+  does a step e = subst (Tells a) e (tells a)
+
+  pub idle : (a : Act) → saidAct p a ≡ none → Idle p end size a
+  idle a e = subst (Tells a) e (tells a)
+
+-- ---- the line at a place
+
+none-is-not-some : {A : Type 0} {x : A} → _≡_ {A = Option A} none (some x) → ⊥
+none-is-not-some {A} e = subst is-none e tt
+  where
+    is-none : Option A → Type 0
+    is-none none = Unit {0}
+    is-none (some y) = ⊥
+
+module _ (n : ℕ) (input : List ℕ) (i end : ℕ) (before : i < length input) (ends : end ≡ i + length (firstPart lineFeed (drop i input))) where
+  pub within : end ≤ length input
+  within = let at-most = part-within lineFeed input i (omega arith) in omega arith
+
+  -- the rest of the lines, where a line feed ends this one
+  pub ended-here : end < length input → linesOf (drop i input) ≡ ended (take (end - i) (drop i input)) ∷ linesOf (drop (end + 1) input)
+  ended-here h =
+      line-ended input i (omega arith)
+      ∙ ap (λ (l : List ℕ). ended l ∷ linesOf (drop (i + length (firstPart lineFeed (drop i input)) + 1) input)) (line-taken input i)
+      ∙ ap (λ (e : ℕ). ended (take (e - i) (drop i input)) ∷ linesOf (drop (e + 1) input)) (sym ends)
+
+  pub cut-here : length input ≤ end → linesOf (drop i input) ≡ cut (drop i input) ∷ []
+  cut-here h = line-cut input i before (omega (arith, within))
+
+  pub line-here : (k : ℕ) (s : State)
+      → stepsText n k s (linesOf (drop i input)) ≡ stepText k s (stepAt n input i end) (λ t. stepsText n (k + 1) t (linesOf (drop (end + 1) input)))
+  unfolding stepsText
+  line-here k s = by-test (ltb end (length input)) refl
+    where
+      by-test : (b : Bool) → ltb end (length input) ≡ b
+          → stepsText n k s (linesOf (drop i input))
+          ≡ stepText k s (cond (ltb end (length input)) (stepIn n (ended (take (end - i) (drop i input)))) none) (λ t. stepsText n (k + 1) t (linesOf (drop (end + 1) input)))
+      by-test true e = rw e (ap (stepsText n k s) (ended-here (ltb-true end (length input) e)))
+      by-test false e =
+          rw e
+          (ap (stepsText n k s) (cut-here (ltb-false end (length input) e))
+          ∙ ap (λ (o : Option Step). stepText k s o (λ t. stepsText n (k + 1) t [])) (no-step-of-cut n (drop i input)))
+
+  -- a step's line is ended, and behind it there is one line less
+  pub record Behind (step : Step) : Type 0 where
+    pub ended-line : end < length input
+    pub says : stepIn n (ended (take (end - i) (drop i input))) ≡ some step
+    pub one-less : length (linesOf (drop i input)) ≡ suc (length (linesOf (drop (end + 1) input)))
+
+  pub behind : (step : Step) → stepAt n input i end ≡ some step → Behind step
+  behind step e = by-test (ltb end (length input)) refl
+    where
+      by-test : (b : Bool) → ltb end (length input) ≡ b → Behind step
+      by-test true t =
+          let h : end < length input = ltb-true end (length input) t in
+          record {
+            ended-line = h;
+            says = sym (ap (λ (b : Bool). cond b (stepIn n (ended (take (end - i) (drop i input)))) none) t) ∙ e;
+            one-less = ap (λ (ls : List Line). length ls) (ended-here h);
+          }
+      by-test false t = absurd (none-is-not-some (sym (ap (λ (b : Bool). cond b (stepIn n (ended (take (end - i) (drop i input)))) none) t) ∙ e))
+
+  -- there is a line here
+  pub one-line : 1 ≤ length (linesOf (drop i input))
+  one-line = by-test (ltb end (length input)) refl
+    where
+      by-test : (b : Bool) → ltb end (length input) ≡ b → 1 ≤ length (linesOf (drop i input))
+      by-test true t = let more = ap (λ (ls : List Line). length ls) (ended-here (ltb-true end (length input) t)) in omega arith
+      by-test false t = let last = ap (λ (ls : List Line). length ls) (cut-here (ltb-false end (length input) t)) in omega arith
+
+-- behind the input there is none
+pub none-behind : (input : List ℕ) → linesOf (drop (length input) input) ≡ []
+none-behind input = ap linesOf (drop-length input) ∙ no-lines
