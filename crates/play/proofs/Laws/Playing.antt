@@ -1,7 +1,7 @@
 -- The loop of `run` (src/running.rt): what is printed so far, with what the lines from here on print, is the whole.
 --   line-laid, line-end                  a line that was printed, where it has room
 --   RunSoFar, run-begun, run-ended       the loop, its start and its end
---   desk-few, sender-few, tray-end, end-within, further-on     what the calls in a turn ask for
+--   turns                                a set for `search`: what a turn's calls and numbers ask for
 --   run-turned                           a turn
 -- Assumes nothing.
 use Prim.Native.Nat.{ℕ, suc, _+_, _*_, _-_, _<_, _≤_}
@@ -10,6 +10,8 @@ use mathlib.Core.List.{List, [], _++_, append-assoc, append-nil}
 use mathlib.Core.Option.{Option, none, some}
 use native.Mathlib.Omega.{arith}
 use lib.ListN.{length, getD, set, take, drop, length-append, take-append-drop}
+use mir.Syntax.{w64}
+use mir.Val.{Fits}
 use borrow.Author.Tests.{le-leb}
 use Rattle.laying.specs.Laying.{laidOver}
 use Rattle.laying.proofs.Laws.{laid, laid-behind}
@@ -131,6 +133,10 @@ module _ (input : List ℕ) (from n m mode : ℕ) (out₀ : List ℕ) (at : ℕ)
       pub desk-few : p < 16
       desk-few = omega (arith, desk-there, so .few-desks)
 
+      -- a record has 652 bytes
+      pub desk-offset : Fits w64 (p * 652)
+      desk-offset = let few = desk-few in omega arith
+
       sender-there : SenderThere n a
       sender-there = by-step (stepAt n input i end) refl
         where
@@ -155,16 +161,25 @@ module _ (input : List ℕ) (from n m mode : ℕ) (out₀ : List ℕ) (at : ℕ)
       pub tray-end : p * size + size ≤ length trays
       tray-end = rw (so .size-is) (omega (arith, so .stands .trays-long, tray-room n p (so .few-desks) desk-there))
 
-      pub end-within : end ≤ 16384
-      end-within = omega (arith, within n input i end before ends, so .few-bytes)
+      pub tray-offset : Fits w64 (p * size)
+      tray-offset = let there = tray-end in omega (arith, so .stands .trays-long)
+
+      pub tray-offset-end : Fits w64 (p * size + size)
+      tray-offset-end = let there = tray-end in omega (arith, so .stands .trays-long)
+
+      pub end-fits : end < 18446744073709551615
+      end-fits = omega (arith, within n input i end before ends, so .few-bytes)
 
       -- the next line is further on
-      pub further-on : (i′ : ℕ) → i′ ≡ nextAt a end (length input) → i < i′
+      further-on : (i′ : ℕ) → i′ ≡ nextAt a end (length input) → i < i′
       further-on i′ e = by-step (stepAt n input i end) refl
         where
           by-step : (o : Option Step) → stepAt n input i end ≡ o → i < i′
           by-step none z = omega (arith, e ∙ idle (step .desk) end (length input) a (says ∙ z) .next-is)
           by-step (some st) z = omega (arith, e ∙ does (step .desk) end (length input) a st (says ∙ z) .next-is)
+
+      pub fewer-left : (i′ : ℕ) → i′ ≡ nextAt a end (length input) → length input - i′ < length input - i
+      fewer-left i′ e = let more = further-on i′ e in omega arith
 
       -- the part of the trays that is lent
       lent-is : take (p * size + size - p * size) (drop (p * size) trays) ≡ trayIn (398 * n) trays p
@@ -221,9 +236,9 @@ module _ (input : List ℕ) (from n m mode : ℕ) (out₀ : List ℕ) (at : ℕ)
               out-is = longer;
               place = further;
               whole =
-              so .whole
-              ∙ ap (λ (l : List ℕ). so .done ++ l) (line-here n input i end before ends k (so .state) ∙ prints)
-              ∙ sym (append-assoc (so .done) line (stepsText n (k + 1) t (linesOf (drop i′ input))));
+                  so .whole
+                  ∙ ap (λ (l : List ℕ). so .done ++ l) (line-here n input i end before ends k (so .state) ∙ prints)
+                  ∙ sym (append-assoc (so .done) line (stepsText n (k + 1) t (linesOf (drop i′ input))));
               room = omega (arith, near, less, so .room);
               few-lines = omega (arith, less, so .few-lines);
             }
@@ -267,3 +282,5 @@ module _ (input : List ℕ) (from n m mode : ℕ) (out₀ : List ℕ) (at : ℕ)
             either : (f : Option Step) → stepAt n input i end ≡ f → Next
             either none e = by-none e
             either (some st) e = by-step st e
+
+pub ruleset turns = (desk-few, desk-offset, sender-few, tray-end, tray-offset, tray-offset-end, end-fits, fewer-left)

@@ -1,4 +1,4 @@
--- `play` meets its contract.
+-- `play` meets its contract, return by return (`plays`).
 -- Assumes nothing.
 use borrow.Author.Needs.{needs}
 use Rattle.play.proofs.Laws.Whole.{plays}

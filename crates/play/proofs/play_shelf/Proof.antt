@@ -1,4 +1,4 @@
--- `play_shelf` meets its contract.
+-- `play_shelf` meets its contract: the header, and behind it the steps (`shelf-played`).
 -- Assumes nothing.
 use borrow.Author.Needs.{needs}
 use Rattle.play.proofs.Laws.Whole.{mode-most, can-run, shelf-played}
@@ -6,19 +6,19 @@ use Rattle.play.proofs.play_shelf.Statement.{statement}
 use Rattle.play.proofs.play_shelf.Tie as tie
 
 mode-in-force-requires : tie.Need-mode-in-force-requires
-mode-in-force-requires c κs = search (mode-most, can-run, shelf-played, needs)
+mode-in-force-requires c κs = search (mode-most, needs)
 
 put-header-requires : tie.Need-put-header-requires
 put-header-requires c κs = search needs
 
 run-requires : tie.Need-run-requires
-run-requires c κs = search (mode-most, can-run, shelf-played, needs)
+run-requires c κs = search (can-run, needs)
 
 same-length : tie.Need-same-length
 same-length c = search needs
 
 returns : tie.Need-returns
-returns c = search (mode-most, can-run, shelf-played, needs)
+returns c = search (shelf-played, needs)
 
 pub play-shelf-spec : {M : Type 1} → statement M
 play-shelf-spec =

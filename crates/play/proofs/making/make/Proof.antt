@@ -1,97 +1,76 @@
+-- `make` meets its contract, act by act (`makes`).
+-- Assumes nothing.
 use borrow.Author.Needs.{needs}
 use Rattle.play.proofs.Laws.Making.{makes}
 use Rattle.play.proofs.making.make.Statement.{statement}
 use Rattle.play.proofs.making.make.Tie as tie
 
--- src/making.rt:88:22
 enum-known-act : tie.Need-enum-known-act
 enum-known-act c = search needs
 
--- src/making.rt:88:41
 write-requires : tie.Need-write-requires
 write-requires c κs = search needs
 
--- src/making.rt:89:21
 enum-known-act-2 : tie.Need-enum-known-act-2
 enum-known-act-2 c = search needs
 
--- src/making.rt:89:31
 read-requires : tie.Need-read-requires
 read-requires c κs = search needs
 
--- src/making.rt:90:30
 enum-told : tie.Need-enum-told
 enum-told c = search needs
 
--- src/making.rt:90:30
 cast-send : tie.Need-cast-send
 cast-send c = search needs
 
--- src/making.rt:90:22
 send-requires : tie.Need-send-requires
 send-requires c κs = search needs
 
--- src/making.rt:91:24
 enum-known-act-3 : tie.Need-enum-known-act-3
 enum-known-act-3 c = search needs
 
--- src/making.rt:91:47
 cast-deliver : tie.Need-cast-deliver
 cast-deliver c = search (makes, needs)
 
--- src/making.rt:91:36
 deliver-requires : tie.Need-deliver-requires
 deliver-requires c κs = search (makes, needs)
 
--- src/making.rt:92:29
 enum-told-2 : tie.Need-enum-told-2
 enum-told-2 c = search needs
 
--- src/making.rt:92:22
 take-requires : tie.Need-take-requires
 take-requires c κs = search needs
 
--- src/making.rt:94:21
 enum-told-3 : tie.Need-enum-told-3
 enum-told-3 c = search needs
 
--- src/making.rt:81:1
 returns : tie.Need-returns
 returns c = search (makes, needs)
 
--- src/making.rt:81:1
 returns-2 : tie.Need-returns-2
 returns-2 c = search (makes, needs)
 
--- src/making.rt:81:1
 same-length : tie.Need-same-length
 same-length c = search needs
 
--- src/making.rt:81:1
 returns-3 : tie.Need-returns-3
 returns-3 c = search (makes, needs)
 
--- src/making.rt:81:1
 same-length-2 : tie.Need-same-length-2
 same-length-2 c = search needs
 
--- src/making.rt:81:1
 same-length-3 : tie.Need-same-length-3
 same-length-3 c = search needs
 
--- src/making.rt:81:1
 returns-4 : tie.Need-returns-4
 returns-4 c = search (makes, needs)
 
--- src/making.rt:81:1
 same-length-4 : tie.Need-same-length-4
 same-length-4 c = search needs
 
--- src/making.rt:81:1
 returns-5 : tie.Need-returns-5
 returns-5 c = search (makes, needs)
 
--- src/making.rt:81:1
 returns-6 : tie.Need-returns-6
 returns-6 c = search (makes, needs)
 

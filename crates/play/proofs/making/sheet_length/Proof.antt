@@ -1,89 +1,70 @@
+-- `sheet_length` meets its contract, case by case (`sent-length`).
+-- Assumes nothing.
 use borrow.Author.Needs.{needs}
 use Rattle.play.proofs.Laws.Making.{sent-length}
 use Rattle.play.proofs.making.sheet_length.Statement.{statement}
 use Rattle.play.proofs.making.sheet_length.Tie as tie
 
--- src/making.rt:21:33
 enum-known-a : tie.Need-enum-known-a
 enum-known-a c = search needs
 
--- src/making.rt:21:51
 cast-result : tie.Need-cast-result
 cast-result c = search needs
 
--- src/making.rt:21:46
 mul-result : tie.Need-mul-result
 mul-result c = search needs
 
--- src/making.rt:21:46
 add-result : tie.Need-add-result
 add-result c = search needs
 
--- src/making.rt:22:27
 enum-told : tie.Need-enum-told
 enum-told c = search needs
 
--- src/making.rt:23:27
 enum-told-2 : tie.Need-enum-told-2
 enum-told-2 c = search needs
 
--- src/making.rt:24:29
 enum-told-3 : tie.Need-enum-told-3
 enum-told-3 c = search needs
 
--- src/making.rt:25:26
 enum-told-4 : tie.Need-enum-told-4
 enum-told-4 c = search needs
 
--- src/making.rt:26:25
 enum-told-5 : tie.Need-enum-told-5
 enum-told-5 c = search needs
 
--- src/making.rt:31:14
 enum-told-6 : tie.Need-enum-told-6
 enum-told-6 c = search needs
 
--- src/making.rt:37:14
 enum-told-7 : tie.Need-enum-told-7
 enum-told-7 c = search needs
 
--- src/making.rt:38:31
 enum-told-8 : tie.Need-enum-told-8
 enum-told-8 c = search needs
 
--- src/making.rt:17:1
 returns : tie.Need-returns
 returns c = search (sent-length, needs)
 
--- src/making.rt:17:1
 returns-2 : tie.Need-returns-2
 returns-2 c = search needs
 
--- src/making.rt:17:1
 returns-3 : tie.Need-returns-3
 returns-3 c = search needs
 
--- src/making.rt:17:1
 returns-4 : tie.Need-returns-4
 returns-4 c = search needs
 
--- src/making.rt:17:1
 returns-5 : tie.Need-returns-5
 returns-5 c = search needs
 
--- src/making.rt:17:1
 returns-6 : tie.Need-returns-6
 returns-6 c = search needs
 
--- src/making.rt:17:1
 returns-7 : tie.Need-returns-7
 returns-7 c = search needs
 
--- src/making.rt:17:1
 returns-8 : tie.Need-returns-8
 returns-8 c = search needs
 
--- src/making.rt:17:1
 returns-9 : tie.Need-returns-9
 returns-9 c = search needs
 

@@ -1,8 +1,10 @@
+-- `run` meets its contract: the loop is `RunSoFar`, and what its turns ask for is `turns`.
+-- Assumes nothing.
 use borrow.Author.Needs.{needs}
 use Prim.Native.Nat.{_-_}
 use native.Mathlib.Omega.{arith}
 use lib.ListN.{length}
-use Rattle.play.proofs.Laws.Playing.{RunSoFar, run-begun, run-ended, out-long, desk-few, sender-few, tray-end, end-within, further-on, run-turned}
+use Rattle.play.proofs.Laws.Playing.{RunSoFar, turns, run-begun, run-ended, out-long, run-turned}
 use Rattle.play.proofs.running.run.Statement.{statement}
 use Rattle.play.proofs.running.run.Tie as tie
 
@@ -12,120 +14,91 @@ Inv-loop input from n m mode out₀ at ds₀ trays₀ latest₀ size i₀ w₀ k
 abbrev μ-loop : tie.MeasureT-loop
 μ-loop input from n m mode out₀ at ds₀ trays₀ latest₀ size i₀ w₀ k₀ out ds trays latest i w k = length input - i
 
--- src/running.rt:95:18
 opened-requires : tie.Need-opened-requires Inv-loop μ-loop
 opened-requires c κs = search needs
 
--- src/running.rt:96:21
 clear-trays-requires : tie.Need-clear-trays-requires Inv-loop μ-loop
 clear-trays-requires c κs = search needs
 
--- src/running.rt:97:22
 no-sheets-requires : tie.Need-no-sheets-requires Inv-loop μ-loop
 no-sheets-requires c κs = search needs
 
--- src/running.rt:98:16
 mul-size : tie.Need-mul-size Inv-loop μ-loop
 mul-size c = search needs
 
--- src/running.rt:102:5
 loop-holds : tie.Need-loop-holds Inv-loop μ-loop
 loop-holds c = search (run-begun, needs)
 
--- src/running.rt:103:13
 part-end-requires : tie.Need-part-end-requires Inv-loop μ-loop
 part-end-requires c κs = search needs
 
--- src/running.rt:104:13
 step-at-requires : tie.Need-step-at-requires Inv-loop μ-loop
 step-at-requires c κs = omega (arith, c .part-end .ensures)
 
--- src/running.rt:106:13
 desk-of-requires : tie.Need-desk-of-requires Inv-loop μ-loop
 desk-of-requires c κs = search needs
 
--- src/running.rt:107:17
 cast-p : tie.Need-cast-p Inv-loop μ-loop
 cast-p c = search needs
 
--- src/running.rt:108:17
 mul-d : tie.Need-mul-d Inv-loop μ-loop
-mul-d c = let few = desk-few _ _ _ _ _ _ _ _ _ _ _ _ _ _ _ (c .before .before .before .before .loop .inv) (omega arith) _ (c .before .before .part-end .ensures) (c .before .step-at .result) (c .before .step-at .ensures) _ (c .desk-of .ensures) in omega arith
+mul-d c = search (turns, needs)
 
--- src/running.rt:108:17
 array-copy-out-d : tie.Need-array-copy-out-d Inv-loop μ-loop
-array-copy-out-d c = desk-few _ _ _ _ _ _ _ _ _ _ _ _ _ _ _ (c .before .before .before .before .loop .inv) (omega arith) _ (c .before .before .part-end .ensures) (c .before .step-at .result) (c .before .step-at .ensures) _ (c .desk-of .ensures)
+array-copy-out-d c = search (turns, needs)
 
--- src/running.rt:109:20
 mul-from : tie.Need-mul-from Inv-loop μ-loop
-mul-from c = let there = tray-end _ _ _ _ _ _ _ _ _ _ _ _ _ _ _ (c .before .before .before .before .before .loop .inv) (omega arith) _ (c .before .before .before .part-end .ensures) (c .before .before .step-at .result) (c .before .before .step-at .ensures) _ (c .before .desk-of .ensures) in omega arith
+mul-from c = search (turns, needs)
 
--- src/running.rt:110:61
 add-make : tie.Need-add-make Inv-loop μ-loop
-add-make c = let there = tray-end _ _ _ _ _ _ _ _ _ _ _ _ _ _ _ (c .before .before .before .before .before .loop .inv) (omega arith) _ (c .before .before .before .part-end .ensures) (c .before .before .step-at .result) (c .before .before .step-at .ensures) _ (c .before .desk-of .ensures) in omega arith
+add-make c = search (turns, needs)
 
--- src/running.rt:110:44
 sub-make : tie.Need-sub-make Inv-loop μ-loop
 sub-make c = search needs
 
--- src/running.rt:110:44
 part-trays-start : tie.Need-part-trays-start Inv-loop μ-loop
 part-trays-start c = search needs
 
--- src/running.rt:110:44
 part-trays-end : tie.Need-part-trays-end Inv-loop μ-loop
-part-trays-end c = tray-end _ _ _ _ _ _ _ _ _ _ _ _ _ _ _ (c .before .before .before .before .before .loop .inv) (omega arith) _ (c .before .before .before .part-end .ensures) (c .before .before .step-at .result) (c .before .before .step-at .ensures) _ (c .before .desk-of .ensures)
+part-trays-end c = search (turns, needs)
 
--- src/running.rt:110:75
 slice-aggregate-make : tie.Need-slice-aggregate-make Inv-loop μ-loop
 slice-aggregate-make c = search needs
 
--- src/running.rt:110:13
 make-requires : tie.Need-make-requires Inv-loop μ-loop
-make-requires c κs = (desk-few _ _ _ _ _ _ _ _ _ _ _ _ _ _ _ (c .before .before .before .before .before .before .before .loop .inv) (omega arith) _ (c .before .before .before .before .before .part-end .ensures) (c .before .before .before .before .step-at .result) (c .before .before .before .before .step-at .ensures) _ (c .before .before .before .desk-of .ensures), (sender-few _ _ _ _ _ _ _ _ _ _ _ _ _ _ _ (c .before .before .before .before .before .before .before .loop .inv) (omega arith) _ (c .before .before .before .before .before .part-end .ensures) (c .before .before .before .before .step-at .result) (c .before .before .before .before .step-at .ensures) _ (c .before .before .before .desk-of .ensures), c .before .before .before .before .before .before .before .loop .inv .stands .kept .fits))
+make-requires c κs = (search (turns, needs), (search (turns, needs), c .before .before .before .before .before .before .before .loop .inv .stands .kept .fits))
 
--- src/running.rt:112:9
 mul-ds : tie.Need-mul-ds Inv-loop μ-loop
-mul-ds c = let few = desk-few _ _ _ _ _ _ _ _ _ _ _ _ _ _ _ (c .before .before .before .before .before .before .before .before .before .before .before .loop .inv) (omega arith) _ (c .before .before .before .before .before .before .before .before .before .part-end .ensures) (c .before .before .before .before .before .before .before .before .step-at .result) (c .before .before .before .before .before .before .before .before .step-at .ensures) _ (c .before .before .before .before .before .before .before .desk-of .ensures) in omega arith
+mul-ds c = search (turns, needs)
 
--- src/running.rt:112:9
 array-set-from-ds : tie.Need-array-set-from-ds Inv-loop μ-loop
-array-set-from-ds c = desk-few _ _ _ _ _ _ _ _ _ _ _ _ _ _ _ (c .before .before .before .before .before .before .before .before .before .before .before .loop .inv) (omega arith) _ (c .before .before .before .before .before .before .before .before .before .part-end .ensures) (c .before .before .before .before .before .before .before .before .step-at .result) (c .before .before .before .before .before .before .before .before .step-at .ensures) _ (c .before .before .before .before .before .before .before .desk-of .ensures)
+array-set-from-ds c = search (turns, needs)
 
--- src/running.rt:114:41
 slice-aggregate-said-of : tie.Need-slice-aggregate-said-of Inv-loop μ-loop
 slice-aggregate-said-of c = search needs
 
--- src/running.rt:114:13
 said-of-requires : tie.Need-said-of-requires Inv-loop μ-loop
-said-of-requires c κs = sender-few _ _ _ _ _ _ _ _ _ _ _ _ _ _ _ (c .before .before .before .before .before .before .before .before .before .before .before .before .loop .inv) (omega arith) _ (c .before .before .before .before .before .before .before .before .before .before .part-end .ensures) (c .before .before .before .before .before .before .before .before .before .step-at .result) (c .before .before .before .before .before .before .before .before .before .step-at .ensures) _ (c .before .before .before .before .before .before .before .before .desk-of .ensures)
+said-of-requires c κs = search (turns, needs)
 
--- src/running.rt:115:9
 put-line-requires : tie.Need-put-line-requires Inv-loop μ-loop
 put-line-requires c κs = search needs
 
--- src/running.rt:116:9
 add-k : tie.Need-add-k Inv-loop μ-loop
 add-k c = omega (arith, c .before .before .before .before .before .before .before .before .before .before .before .before .before .before .before .before .before .loop .inv .few-lines)
 
--- src/running.rt:117:9
 next-requires : tie.Need-next-requires Inv-loop μ-loop
-next-requires c κs = let most = end-within _ _ _ _ _ _ _ _ _ _ _ _ _ _ _ (c .before .before .before .before .before .before .before .before .before .before .before .before .before .before .before .before .before .loop .inv) (omega arith) _ (c .before .before .before .before .before .before .before .before .before .before .before .before .before .before .before .part-end .ensures) (c .before .before .before .before .before .before .before .before .before .before .before .before .before .before .step-at .result) (c .before .before .before .before .before .before .before .before .before .before .before .before .before .before .step-at .ensures) _ (c .before .before .before .before .before .before .before .before .before .before .before .before .before .desk-of .ensures) in omega arith
+next-requires c κs = search (turns, needs)
 
--- src/running.rt:102:5
 loop-less : tie.Need-loop-less Inv-loop μ-loop
-loop-less c = let more = further-on _ _ _ _ _ _ _ _ _ _ _ _ _ _ _ (c .before .before .before .before .before .before .before .before .before .before .before .before .before .before .before .before .before .before .loop .inv) (omega arith) _ (c .before .before .before .before .before .before .before .before .before .before .before .before .before .before .before .before .part-end .ensures) (c .before .before .before .before .before .before .before .before .before .before .before .before .before .before .before .step-at .result) (c .before .before .before .before .before .before .before .before .before .before .before .before .before .before .before .step-at .ensures) _ (c .before .before .before .before .before .before .before .before .before .before .before .before .before .before .desk-of .ensures) _ (c .next .ensures) in omega arith
+loop-less c = search (turns, needs)
 
--- src/running.rt:102:5
 loop-again : tie.Need-loop-again Inv-loop μ-loop
 loop-again c =
     run-turned _ _ _ _ _ _ _ _ _ _ _ _ _ _ _ (c .before .before .before .before .before .before .before .before .before .before .before .before .before .before .before .before .before .before .loop .inv) (omega arith) _ (c .before .before .before .before .before .before .before .before .before .before .before .before .before .before .before .before .part-end .ensures) (c .before .before .before .before .before .before .before .before .before .before .before .before .before .before .before .step-at .result) (c .before .before .before .before .before .before .before .before .before .before .before .before .before .before .before .step-at .ensures) _ (c .before .before .before .before .before .before .before .before .before .before .before .before .before .before .desk-of .ensures) (c .before .before .before .before .before .before .before .before .before .before .make .result) _ _ (c .before .before .before .before .before .before .before .before .before .before .make .ensures) (c .before .before .before .before .before .said-of .result) (c .before .before .before .before .before .said-of .ensures) _ _ (c .before .before .before .put-line .ensures .0) (c .before .before .before .put-line .ensures .1) _ (c .next .ensures)
 
--- src/running.rt:90:1
 same-length : tie.Need-same-length Inv-loop μ-loop
 same-length c = out-long _ _ _ _ _ _ _ _ _ _ _ _ _ _ _ (c .before .loop .inv)
 
--- src/running.rt:90:1
 returns : tie.Need-returns Inv-loop μ-loop
 returns c = run-ended _ _ _ _ _ _ _ _ _ _ _ _ _ _ _ (c .before .loop .inv) (omega arith)
 
