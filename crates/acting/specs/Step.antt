@@ -2,6 +2,7 @@
 -- wanted); `t` desk."
 -- Assumes nothing.
 use Prim.Native.Nat.{ℕ}
+use mathlib.Core.Path.{_≡_}
 use mathlib.Core.Option.{Option, none, some}
 use Rattle.content.specs.declared.Content.{Content}
 use Rattle.acting.specs.declared.Act as declared-act
@@ -33,3 +34,19 @@ saidAct p act.Bad = none
 
 abbrev pub saidStep : declared.Step → Option Step
 saidStep s = saidAct (s .desk) (s .act)
+
+-- where the line is of another form, the code's struct has desk 0
+abbrev pub deskIfBad : ℕ → declared-act.Act → Type 0
+deskIfBad p (act.Write cell c) = Unit {0}
+deskIfBad p (act.Read cell) = Unit {0}
+deskIfBad p act.Send = Unit {0}
+deskIfBad p (act.Deliver q) = Unit {0}
+deskIfBad p act.Take = Unit {0}
+deskIfBad p act.Bad = p ≡ 0
+
+-- so it has, whatever the desk, if the act is not of another form
+abbrev pub NotBad : declared-act.Act → Type 0
+NotBad a = (p : ℕ) → deskIfBad p a
+
+abbrev pub DeskIfBad : declared.Step → Type 0
+DeskIfBad s = deskIfBad (s .desk) (s .act)

@@ -21,6 +21,7 @@ use Rattle.desk.specs.Calls.{modeFor, openOf}
 use Rattle.runs.specs.Calls.{Call, document01}
 use Rattle.runs.specs.Run.{Sheet, State, start, made, after, Possible, Run, answers}
 use Rattle.runs.proofs.TurnRules.{turn-rules}
+use Rattle.runs.proofs.Laws.Lists.{run-split}
 use Rattle.acting.specs.Step.{Act, Step}
 use Rattle.acting.specs.Step as spec
 use Rattle.schedule.specs.Lines.{Line, linesOf}
@@ -141,7 +142,7 @@ schedules-are-runs input x lines so =
           ∙ ap (λ (o : Option Start). runText o lines) (so .says)
           ∙ ap (λ (b : Bool). cond b (headerText n (x .m) (modeFor (x .mode)) ++ stepsText n 1 (start (shelfOf x)) lines) badStart) (so .can-open)
           ∙ ap (λ (l : List ℕ). headerText n (x .m) (modeFor (x .mode)) ++ l) (text-is n 1 (start (shelfOf x)) lines);
-      turn-rules =
+      turn-rules = λ cs ds e.
           turn-rules (shelfOf x)
           (record {
             desks-least = allowed .desks-least;
@@ -150,6 +151,6 @@ schedules-are-runs input x lines so =
             cells-most = allowed .cells-most;
             modes-most = λ p l. allowed .mode-most;
           })
-          (callsOf (start (shelfOf x)) (stepsIn n lines))
-          run;
+          cs
+          (run-split document01 n (start (shelfOf x)) cs ds (subst (Run document01 n (start (shelfOf x))) e run) .0);
     }

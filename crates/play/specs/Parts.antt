@@ -17,7 +17,6 @@ use Rattle.desk.specs.Calls.{modeFor, openOf, writeOf, readOf, sendOf, deliverO
 use Rattle.runs.specs.Run.{Sheet, start, sheetLeft}
 use Rattle.acting.specs.declared.Act.{Act}
 use Rattle.acting.specs.declared.Act.the-variants as act
-use Rattle.acting.specs.declared.Step as declared
 use Rattle.acting.specs.Step.{Step}
 use Rattle.acting.specs.Said.{Said, answers, nothingSent, badLine}
 use Rattle.schedule.specs.Lines.{ended, linesOf}
@@ -126,18 +125,6 @@ noSheets = replicate 6368 0
 -- the step of the line from `from` to `end`, where a line feed stands; none, where the input ends there
 abbrev pub stepAt : ℕ → List ℕ → ℕ → ℕ → Option Step
 stepAt n input from end = cond (ltb end (length input)) (stepIn n (ended (take (end - from) (drop from input)))) none
-
--- whose step it is; desk 0's, where nothing is done
-abbrev pub deskBy : ℕ → Act → ℕ
-deskBy p (act.Write cell c) = p
-deskBy p (act.Read cell) = p
-deskBy p act.Send = p
-deskBy p (act.Deliver q) = p
-deskBy p act.Take = p
-deskBy p act.Bad = 0
-
-abbrev pub deskFor : declared.Step → ℕ
-deskFor s = deskBy (s .desk) (s .act)
 
 -- where the next line starts; the end of the input, where the run ends
 abbrev pub nextAt : Act → ℕ → ℕ → ℕ

@@ -87,13 +87,13 @@ pub record Starts (input : List ℕ) (x : Start) (lines : List Line) : Type 0 wh
   pub can-open : opens x ≡ true
 
 -- its steps are calls of a run of demand 3, from all desks opened once, with clear trays; what is printed are that run's answers, line by line; and
--- the turn rules hold of it
+-- the turn rules hold after each of its calls
 pub record IsARun (input : List ℕ) (x : Start) (lines : List Line) : Type 0 where
   pub is-run : Run document01 (x .n) (start (shelfOf x)) (callsOf (start (shelfOf x)) (stepsIn (x .n) lines))
   pub same-answers : answersIn (saysOf (start (shelfOf x)) (stepsIn (x .n) lines)) ≡ answers document01 (start (shelfOf x)) (callsOf (start (shelfOf x)) (stepsIn (x .n) lines))
   pub prints : printed input
       ≡ headerText (x .n) (x .m) (modeFor (x .mode)) ++ numbered 1 (saysOf (start (shelfOf x)) (stepsIn (x .n) lines)) (endsBadly (x .n) lines)
-  pub turn-rules : TurnRules document01 (shelfOf x) (callsOf (start (shelfOf x)) (stepsIn (x .n) lines))
+  pub turn-rules : (cs ds : List Call) → callsOf (start (shelfOf x)) (stepsIn (x .n) lines) ≡ cs ++ ds → TurnRules document01 (shelfOf x) cs
 
 abbrev pub SchedulesAreRuns : Type 0
 SchedulesAreRuns = (input : List ℕ) (x : Start) (lines : List Line) → Starts input x lines → IsARun input x lines

@@ -2,7 +2,7 @@
 ghost use mathlib.Core.List.{[]};
 ghost use mathlib.Core.Path.{_≡_};
 ghost use Prim.Native.Nat.{_<_};
-ghost use Rattle.desk.specs.Answers.{outcome, said};
+ghost use Rattle.desk.specs.Answers.{said};
 ghost use Rattle.desk.specs.Calls.{sendOf};
 ghost use Rattle.acting.specs.Said.{saying};
 ghost use Rattle.play.specs.Steps.{sheetRoom};

@@ -3,8 +3,8 @@ ghost use mathlib.Core.Path.{_≡_};
 ghost use Prim.Native.Nat.{_+_, _<_, _≤_};
 ghost use lib.ListN.{length};
 ghost use Rattle.laying.specs.Laying.{laidOver};
-ghost use Rattle.acting.specs.Step.{saidStep};
-ghost use Rattle.play.specs.Parts.{AllOpened, clearTrays, noSheets, stepAt, deskFor, nextAt, Runs, runOf};
+ghost use Rattle.acting.specs.Step.{saidStep, DeskIfBad};
+ghost use Rattle.play.specs.Parts.{AllOpened, clearTrays, noSheets, stepAt, nextAt, Runs, runOf};
 use crate::making;
 use acting::Act;
 use acting::Step;
@@ -45,6 +45,7 @@ fn no_sheets() -> [u8; 6368]
 fn step_at(input: &[u8], from: usize, end: usize, n: u32) -> Step
     requires { ⌜ from ≤ end ⌝ }
     ensures { λ r. ⌜ saidStep r ≡ stepAt n (now (input .entry)) from end ⌝ }
+    ensures { λ r. ⌜ DeskIfBad r ⌝ }
 {
     if input.len() <= end {
         return Step {
@@ -53,25 +54,6 @@ fn step_at(input: &[u8], from: usize, end: usize, n: u32) -> Step
         };
     }
     schedule::step_in(&input[from..end], n)
-}
-
-// Whose step it is; desk 0's, where a line is of another form and nothing is done.
-fn desk_of(step: Step) -> u32
-    ensures { λ r. ⌜ r ≡ deskFor step ⌝ }
-{
-    let desk = step.desk;
-    let act = step.act;
-    match act {
-        Act::Write {
-            cell: _,
-            content: _,
-        } => desk,
-        Act::Read { cell: _ } => desk,
-        Act::Send => desk,
-        Act::Deliver { sender: _ } => desk,
-        Act::Take => desk,
-        Act::Bad => 0,
-    }
 }
 
 // Where the next line starts: nowhere, behind one of another form.
@@ -118,11 +100,16 @@ pub(crate) fn run(
         let end = text::part_end(input, i, 10);
         let step = step_at(input, i, end, n);
         let act = step.act;
-        let desk = desk_of(step);
-        let p = desk as usize;
+        let p = step.desk as usize;
         let d = ds[p];
         let from = p * size;
-        let o = making::make(d, desk, act, &mut trays[from..from + size], &mut latest);
+        let o = making::make(
+            d,
+            step.desk,
+            act,
+            &mut trays[from..from + size],
+            &mut latest,
+        );
         let e = o.desk;
         ds[p] = e;
         let a = o.answer;

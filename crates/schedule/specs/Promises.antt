@@ -30,7 +30,7 @@ pub record Fair (n : ℕ) (step : Step) : Type 0 where
 abbrev pub StepsAreFair : Type 0
 StepsAreFair = (n : ℕ) (l : Line) (step : Step) → stepIn n l ≡ some step → Fair n step
 
--- ---- 01's listing, line by line, and lines of other forms, on a shelf of two desks
+-- ---- a line of each form, from 01's listing, and lines of other forms, on a shelf of two desks
 
 abbrev pub Says : String → Step → Type 0
 Says line step = stepIn 2 (ended (text line)) ≡ some step
@@ -38,7 +38,7 @@ Says line step = stepIn 2 (ended (text line)) ≡ some step
 abbrev pub SaysNothing : String → Type 0
 SaysNothing line = stepIn 2 (ended (text line)) ≡ none
 
-pub record Listing : Type 0 where
+pub record EachForm : Type 0 where
   pub start : startIn (ended (text "2 2 s")) ≡ some (record { n = 2; m = 2; mode = 1 })
   pub step-1 : Says "w 1 0 0" (record { desk = 1; act = writes 0 (Day (pos 0)) })
   pub step-2 : Says "r 1 1" (record { desk = 1; act = reads 1 })

@@ -5,7 +5,7 @@
 // (specs/), each of which is read where it lies.
 ghost use mathlib.Core.Path.{_≡_};
 ghost use lib.ListN.{length};
-ghost use Rattle.acting.specs.Step.{saidStep};
+ghost use Rattle.acting.specs.Step.{saidStep, DeskIfBad};
 ghost use Rattle.schedule.specs.Lines.{ended, linesOf};
 ghost use Rattle.schedule.specs.Start.{startIn, saidStart};
 ghost use Rattle.schedule.specs.Step.{stepIn};
@@ -60,6 +60,7 @@ pub fn start_in(line: &[u8]) -> Start
 // What a line, without its line feed, says as a step, on a shelf of n desks.
 pub fn step_in(line: &[u8], n: u32) -> Step
     ensures { λ r. ⌜ saidStep r ≡ stepIn n (ended (now (line .entry))) ⌝ }
+    ensures { λ r. ⌜ DeskIfBad r ⌝ }
 {
     let first = words::letter_at(line, 0);
     let letter = first.byte;

@@ -3,7 +3,7 @@ ghost use mathlib.Core.Path.{_≡_};
 ghost use mathlib.Core.Option.{none};
 ghost use Prim.Native.Nat.{_+_, _≤_};
 ghost use lib.ListN.{length};
-ghost use Rattle.acting.specs.Step.{saidStep};
+ghost use Rattle.acting.specs.Step.{saidStep, DeskIfBad, NotBad};
 ghost use Rattle.schedule.specs.Step.{writeIn, readIn, deliverIn};
 ghost use Rattle.schedule.specs.Parts.{wordsAt, aloneIn};
 use crate::words;
@@ -13,6 +13,7 @@ use acting::Step;
 // A line of another form.
 pub(crate) fn bad() -> Step
     ensures { λ r. ⌜ saidStep r ≡ none ⌝ }
+    ensures { λ r. ⌜ DeskIfBad r ⌝ }
 {
     Step {
         desk: 0,
@@ -24,6 +25,7 @@ pub(crate) fn bad() -> Step
 pub(crate) fn write_in(line: &[u8], from: usize, n: u32) -> Step
     requires { ⌜ from ≤ length (now line) + 1 ⌝ }
     ensures { λ r. ⌜ saidStep r ≡ writeIn n (wordsAt (now (line .entry)) from) ⌝ }
+    ensures { λ r. ⌜ DeskIfBad r ⌝ }
 {
     let p = words::number_at(line, from);
     let cell = words::number_at(line, p.end + 1);
@@ -46,6 +48,7 @@ pub(crate) fn write_in(line: &[u8], from: usize, n: u32) -> Step
 pub(crate) fn read_in(line: &[u8], from: usize, n: u32) -> Step
     requires { ⌜ from ≤ length (now line) + 1 ⌝ }
     ensures { λ r. ⌜ saidStep r ≡ readIn n (wordsAt (now (line .entry)) from) ⌝ }
+    ensures { λ r. ⌜ DeskIfBad r ⌝ }
 {
     let p = words::number_at(line, from);
     let cell = words::number_at(line, p.end + 1);
@@ -63,6 +66,7 @@ pub(crate) fn read_in(line: &[u8], from: usize, n: u32) -> Step
 pub(crate) fn deliver_in(line: &[u8], from: usize, n: u32) -> Step
     requires { ⌜ from ≤ length (now line) + 1 ⌝ }
     ensures { λ r. ⌜ saidStep r ≡ deliverIn n (wordsAt (now (line .entry)) from) ⌝ }
+    ensures { λ r. ⌜ DeskIfBad r ⌝ }
 {
     let q = words::number_at(line, from);
     let p = words::number_at(line, q.end + 1);
@@ -78,7 +82,9 @@ pub(crate) fn deliver_in(line: &[u8], from: usize, n: u32) -> Step
 
 // "`s` desk", "`t` desk"
 pub(crate) fn act_in(line: &[u8], from: usize, n: u32, act: Act) -> Step
+    requires { ⌜ NotBad act ⌝ }
     ensures { λ r. ⌜ saidStep r ≡ aloneIn n act (wordsAt (now (line .entry)) from) ⌝ }
+    ensures { λ r. ⌜ DeskIfBad r ⌝ }
 {
     let p = words::number_at(line, from);
     if (line.len() <= p.end) & (p.ok & (p.value < n)) {

@@ -18,28 +18,26 @@ use Rattle.text.specs.Parts.{firstPart, lineFeed}
 use Rattle.text.proofs.Laws.Parts.{part-within}
 use Rattle.acting.specs.declared.Act.{Act}
 use Rattle.acting.specs.declared.Act.the-variants as act
-use Rattle.acting.specs.Step.{Step, saidAct}
+use Rattle.acting.specs.Step.{Step, saidAct, deskIfBad}
 use Rattle.acting.specs.Step as spec
 use Rattle.schedule.specs.Lines.{Line, ended, cut, linesOf}
 use Rattle.schedule.specs.Step.{stepIn}
 use Rattle.schedule.proofs.Laws.Lines.{no-lines, line-taken, line-ended, line-cut}
 use Rattle.schedule.proofs.Laws.Steps.{no-step-of-cut}
 use Rattle.play.specs.Rounds.{stepText, stepsText}
-use Rattle.play.specs.Parts.{SenderThere, stepAt, deskBy, nextAt}
+use Rattle.play.specs.Parts.{SenderThere, stepAt, nextAt}
 
 -- ---- the code's step
 
 -- it does what this step says
 pub record Does (p end size : ℕ) (a : Act) (step : Step) : Type 0 where
-  pub desk-is : deskBy p a ≡ step .desk
-  pub says : saidAct (deskBy p a) a ≡ some step
+  pub desk-is : p ≡ step .desk
   pub next-is : nextAt a end size ≡ end + 1
   pub sender : (n : ℕ) → ((q : ℕ) → step .act ≡ spec.delivers q → q < n) → SenderThere n a
 
 -- it does nothing, and the run ends
 pub record Idle (p end size : ℕ) (a : Act) : Type 0 where
-  pub desk-is : deskBy p a ≡ 0
-  pub says : saidAct (deskBy p a) a ≡ none
+  pub desk-is : deskIfBad p a → p ≡ 0
   pub next-is : nextAt a end size ≡ size
   pub sender : (n : ℕ) → SenderThere n a
 
@@ -49,13 +47,13 @@ module _ (p end size : ℕ) where
   Tells a none = Idle p end size a
   Tells a (some step) = Does p end size a step
 
-  pub tells : (a : Act) → Tells a (saidAct p a)
-  tells (act.Write cell c) = record { desk-is = refl; says = refl; next-is = refl; sender = λ n there. tt }
-  tells (act.Read cell) = record { desk-is = refl; says = refl; next-is = refl; sender = λ n there. tt }
-  tells act.Send = record { desk-is = refl; says = refl; next-is = refl; sender = λ n there. tt }
-  tells (act.Deliver q) = record { desk-is = refl; says = refl; next-is = refl; sender = λ n there. there q refl }
-  tells act.Take = record { desk-is = refl; says = refl; next-is = refl; sender = λ n there. tt }
-  tells act.Bad = record { desk-is = refl; says = refl; next-is = refl; sender = λ n. tt }
+  tells : (a : Act) → Tells a (saidAct p a)
+  tells (act.Write cell c) = record { desk-is = refl; next-is = refl; sender = λ n there. tt }
+  tells (act.Read cell) = record { desk-is = refl; next-is = refl; sender = λ n there. tt }
+  tells act.Send = record { desk-is = refl; next-is = refl; sender = λ n there. tt }
+  tells (act.Deliver q) = record { desk-is = refl; next-is = refl; sender = λ n there. there q refl }
+  tells act.Take = record { desk-is = refl; next-is = refl; sender = λ n there. tt }
+  tells act.Bad = record { desk-is = λ zero. zero; next-is = refl; sender = λ n. tt }
 
   pub does : (a : Act) (step : Step) → saidAct p a ≡ some step → Does p end size a step
   does a step e = subst (Tells a) e (tells a)

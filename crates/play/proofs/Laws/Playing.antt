@@ -25,14 +25,14 @@ use Rattle.acting.specs.declared.Act.{Act}
 use Rattle.acting.specs.declared.Act.the-variants as act
 use Rattle.acting.specs.declared.Said as declared-said
 use Rattle.acting.specs.declared.Step as declared
-use Rattle.acting.specs.Step.{Step, saidAct, saidStep}
+use Rattle.acting.specs.Step.{Step, saidAct, saidStep, DeskIfBad}
 use Rattle.acting.specs.Said.{Said, saying}
 use Rattle.schedule.specs.Lines.{Line, ended, linesOf}
 use Rattle.schedule.proofs.Laws.Steps.{desk-is-there, sender-is-there}
 use Rattle.printing.specs.Printing.{Wrote, wrote, lineText}
 use Rattle.play.specs.Steps.{afterStep}
 use Rattle.play.specs.Rounds.{stepText, stepsText}
-use Rattle.play.specs.Parts.{making, makeOf, saidFor, SenderThere, noDesk, AllOpened, clearTrays, noSheets, stepAt, deskFor, nextAt, Runs, runOf}
+use Rattle.play.specs.Parts.{making, makeOf, saidFor, SenderThere, noDesk, AllOpened, clearTrays, noSheets, stepAt, nextAt, Runs, runOf}
 use Rattle.play.proofs.Laws.Trays.{trayIn, tray-room, spliced}
 use Rattle.play.proofs.Laws.Standing.{Stands, stands-at-start, follows, nothing-done}
 use Rattle.play.proofs.Laws.Lines.{does, idle, within, line-here, behind, one-line, none-behind}
@@ -110,8 +110,10 @@ module _ (input : List ℕ) (from n m mode : ℕ) (out₀ : List ℕ) (at : ℕ)
 
     -- a turn: the code's step, whose it is, what it leaves, what it prints, and where the next line starts
     module _ (before : i < length input) (end : ℕ) (ends : end ≡ i + length (firstPart lineFeed (drop i input)))
-        (step : declared.Step) (says : saidStep step ≡ stepAt n input i end)
-        (p : ℕ) (own : p ≡ deskFor step) where
+        (step : declared.Step) (says : saidStep step ≡ stepAt n input i end) (if-bad : DeskIfBad step) where
+      abbrev p : ℕ
+      p = step .desk
+
       abbrev a : Act
       a = step .act
 
@@ -124,11 +126,11 @@ module _ (input : List ℕ) (from n m mode : ℕ) (out₀ : List ℕ) (at : ℕ)
       desk-there = by-step (stepAt n input i end) refl
         where
           by-step : (o : Option Step) → stepAt n input i end ≡ o → p < n
-          by-step none e = omega (arith, own ∙ idle (step .desk) end (length input) a (says ∙ e) .desk-is, so .some-desks)
+          by-step none e = omega (arith, idle p end (length input) a (says ∙ e) .desk-is if-bad, so .some-desks)
           by-step (some st) e =
-              let d = does (step .desk) end (length input) a st (says ∙ e) in
+              let d = does p end (length input) a st (says ∙ e) in
               let l = desk-is-there n (ended (take (end - i) (drop i input))) st (behind n input i end before ends st e .says) in
-              omega (arith, own ∙ d .desk-is)
+              omega (arith, d .desk-is)
 
       pub desk-few : p < 16
       desk-few = omega (arith, desk-there, so .few-desks)
@@ -141,9 +143,9 @@ module _ (input : List ℕ) (from n m mode : ℕ) (out₀ : List ℕ) (at : ℕ)
       sender-there = by-step (stepAt n input i end) refl
         where
           by-step : (o : Option Step) → stepAt n input i end ≡ o → SenderThere n a
-          by-step none e = idle (step .desk) end (length input) a (says ∙ e) .sender n
+          by-step none e = idle p end (length input) a (says ∙ e) .sender n
           by-step (some st) e =
-              does (step .desk) end (length input) a st (says ∙ e) .sender n
+              does p end (length input) a st (says ∙ e) .sender n
               (sender-is-there n (ended (take (end - i) (drop i input))) st (behind n input i end before ends st e .says))
 
       pub sender-few : SenderThere 16 a
@@ -175,8 +177,8 @@ module _ (input : List ℕ) (from n m mode : ℕ) (out₀ : List ℕ) (at : ℕ)
       further-on i′ e = by-step (stepAt n input i end) refl
         where
           by-step : (o : Option Step) → stepAt n input i end ≡ o → i < i′
-          by-step none z = omega (arith, e ∙ idle (step .desk) end (length input) a (says ∙ z) .next-is)
-          by-step (some st) z = omega (arith, e ∙ does (step .desk) end (length input) a st (says ∙ z) .next-is)
+          by-step none z = omega (arith, e ∙ idle p end (length input) a (says ∙ z) .next-is)
+          by-step (some st) z = omega (arith, e ∙ does p end (length input) a st (says ∙ z) .next-is)
 
       pub fewer-left : (i′ : ℕ) → i′ ≡ nextAt a end (length input) → length input - i′ < length input - i
       fewer-left i′ e = let more = further-on i′ e in omega arith
@@ -249,10 +251,9 @@ module _ (input : List ℕ) (from n m mode : ℕ) (out₀ : List ℕ) (at : ℕ)
 
         by-step : (st : Step) → stepAt n input i end ≡ some st → Next
         by-step st e =
-            let d = does (step .desk) end (length input) a st (says ∙ e) in
+            let d = does p end (length input) a st (says ∙ e) in
             let b = behind n input i end before ends st e in
-            let p-says : saidAct p a ≡ some st = ap (λ (q : ℕ). saidAct q a) own ∙ d .says in
-            let f = follows (so .few-desks) (so .stands) desk-there (getD ds p noDesk) refl lent lent-is a (making o tray′ latest′) made sender-there st p-says in
+            let f = follows (so .few-desks) (so .stands) desk-there (getD ds p noDesk) refl lent lent-is a (making o tray′ latest′) made sender-there st (says ∙ e) in
             let on : i′ ≡ end + 1 = goes-on ∙ d .next-is in
             let left : length (linesOf (drop i′ input)) ≡ length (linesOf (drop (end + 1) input)) = ap (λ (z : ℕ). length (linesOf (drop z input))) on in
             turned (afterStep (so .state) st) (f .as-long) (f .stands) (omega (arith, on, b .ended-line))
@@ -264,9 +265,8 @@ module _ (input : List ℕ) (from n m mode : ℕ) (out₀ : List ℕ) (at : ℕ)
         by-none : stepAt n input i end ≡ none → Next
         unfolding stepsText
         by-none e =
-            let d = idle (step .desk) end (length input) a (says ∙ e) in
-            let p-says : saidAct p a ≡ none = ap (λ (q : ℕ). saidAct q a) own ∙ d .says in
-            let f = nothing-done (so .few-desks) (so .stands) desk-there (getD ds p noDesk) refl lent lent-is a (making o tray′ latest′) made p-says in
+            let d = idle p end (length input) a (says ∙ e) in
+            let f = nothing-done (so .few-desks) (so .stands) desk-there (getD ds p noDesk) refl lent lent-is a (making o tray′ latest′) made (says ∙ e) in
             let on : i′ ≡ length input = goes-on ∙ d .next-is in
             let none-left : linesOf (drop i′ input) ≡ [] = ap (λ (z : ℕ). linesOf (drop z input)) on ∙ none-behind input in
             turned (so .state) (f .as-long) (f .stands) (omega (arith, on))

@@ -1,6 +1,6 @@
 -- The promises of specs/Promises.antt.
 --   steps-are-fair : StepsAreFair
---   listing-reads : Listing, edges-read : AtTheEdges, other-forms : OtherForms, each by computing
+--   each-form-reads : EachForm, edges-read : AtTheEdges, other-forms : OtherForms, each by computing
 -- Assumes nothing.
 use mathlib.Core.Path.{refl}
 use Rattle.text.specs.Parts.{parts}
@@ -8,15 +8,15 @@ use Rattle.text.specs.Decimal.{isDecimal, valueFrom, value}
 use Rattle.schedule.specs.Words.{is, isNumber, isDesk, isDay, dayIn, isContent, contentIn}
 use Rattle.schedule.specs.Start.{isMode, modeIn, startIn}
 use Rattle.schedule.specs.Step.{stepIn}
-use Rattle.schedule.specs.Promises.{StepsAreFair, Listing, AtTheEdges, OtherForms}
+use Rattle.schedule.specs.Promises.{StepsAreFair, EachForm, AtTheEdges, OtherForms}
 use Rattle.schedule.proofs.Laws.Steps.{fair}
 
 pub steps-are-fair : StepsAreFair
 steps-are-fair n l step says = fair n step l says
 
-pub listing-reads : Listing
+pub each-form-reads : EachForm
 unfolding parts isDecimal valueFrom value is isNumber isDesk isDay dayIn isContent contentIn isMode modeIn startIn stepIn
-listing-reads = record { start = refl; step-1 = refl; step-2 = refl; step-4 = refl; step-5 = refl; step-6 = refl; step-8 = refl }
+each-form-reads = record { start = refl; step-1 = refl; step-2 = refl; step-4 = refl; step-5 = refl; step-6 = refl; step-8 = refl }
 
 pub edges-read : AtTheEdges
 unfolding parts isDecimal valueFrom value is isNumber isDesk isDay dayIn isContent contentIn isMode modeIn startIn stepIn

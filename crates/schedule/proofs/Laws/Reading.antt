@@ -18,7 +18,7 @@ use borrow.Author.Tests.{ltb-false, ne-eqb}
 use Rattle.acting.specs.declared.Act.{Act}
 use Rattle.acting.specs.declared.Act.the-variants as act
 use Rattle.acting.specs.declared.Step as declared
-use Rattle.acting.specs.Step.{writes, reads, sends, delivers, takes, Step, saidAct, saidStep}
+use Rattle.acting.specs.Step.{writes, reads, sends, delivers, takes, Step, saidAct, saidStep, deskIfBad, NotBad}
 use Rattle.content.specs.declared.Content.{Content}
 use Rattle.content.specs.declared.Content.the-variants.{Blank}
 use Rattle.text.specs.Parts.{parts, space}
@@ -248,7 +248,10 @@ module _ (line : List ℕ) (from n : ℕ) (a : Act) where
     pub alone-bad : alone-test n (length line) p ≡ false → (b : declared.Step) → saidStep b ≡ none → saidStep b ≡ aloneIn n a (wordsAt line from)
     alone-bad t b is = is ∙ sym (alone-by-code ∙ rw t)
 
-pub ruleset alones-read = (alone-found, alone-bad)
+pub not-bad : (a : Act) → NotBad a → (p : ℕ) → deskIfBad p a
+not-bad a fair p = fair p
+
+pub ruleset alones-read = (alone-found, alone-bad, not-bad)
 
 sends-alone : (n : ℕ) (words : List (List ℕ)) → aloneIn n act.Send words ≡ actIn n sends words
 sends-alone n [] = refl

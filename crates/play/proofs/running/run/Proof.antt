@@ -35,9 +35,6 @@ part-end-requires c κs = search needs
 step-at-requires : tie.Need-step-at-requires Inv-loop μ-loop
 step-at-requires c κs = omega (arith, c .part-end .ensures)
 
-desk-of-requires : tie.Need-desk-of-requires Inv-loop μ-loop
-desk-of-requires c κs = search needs
-
 cast-p : tie.Need-cast-p Inv-loop μ-loop
 cast-p c = search needs
 
@@ -94,7 +91,11 @@ loop-less c = search (turns, needs)
 
 loop-again : tie.Need-loop-again Inv-loop μ-loop
 loop-again c =
-    run-turned _ _ _ _ _ _ _ _ _ _ _ _ _ _ _ (c .before .before .before .before .before .before .before .before .before .before .before .before .before .before .before .before .before .before .loop .inv) (omega arith) _ (c .before .before .before .before .before .before .before .before .before .before .before .before .before .before .before .before .part-end .ensures) (c .before .before .before .before .before .before .before .before .before .before .before .before .before .before .before .step-at .result) (c .before .before .before .before .before .before .before .before .before .before .before .before .before .before .before .step-at .ensures) _ (c .before .before .before .before .before .before .before .before .before .before .before .before .before .before .desk-of .ensures) (c .before .before .before .before .before .before .before .before .before .before .make .result) _ _ (c .before .before .before .before .before .before .before .before .before .before .make .ensures) (c .before .before .before .before .before .said-of .result) (c .before .before .before .before .before .said-of .ensures) _ _ (c .before .before .before .put-line .ensures .0) (c .before .before .before .put-line .ensures .1) _ (c .next .ensures)
+    run-turned _ _ _ _ _ _ _ _ _ _ _ _ _ _ _ (c .before .before .before .before .before .before .before .before .before .before .before .before .before .before .before .before .before .before .loop .inv) (omega arith) _ (c .before .before .before .before .before .before .before .before .before .before .before .before .before .before .before .before .part-end .ensures) (c .before .before .before .before .before .before .before .before .before .before .before .before .before .before .before .step-at .result) (c .before .before .before .before .before .before .before .before .before .before .before .before .before .before .before .step-at .ensures .0) (c .before .before .before .before .before .before .before .before .before .before .before .before .before .before .before .step-at .ensures .1)
+    (c .before .before .before .before .before .before .before .before .before .before .make .result) _ _ (c .before .before .before .before .before .before .before .before .before .before .make .ensures)
+    (c .before .before .before .before .before .said-of .result) (c .before .before .before .before .before .said-of .ensures)
+    _ _ (c .before .before .before .put-line .ensures .0) (c .before .before .before .put-line .ensures .1)
+    _ (c .next .ensures)
 
 same-length : tie.Need-same-length Inv-loop μ-loop
 same-length c = out-long _ _ _ _ _ _ _ _ _ _ _ _ _ _ _ (c .before .loop .inv)
@@ -115,7 +116,6 @@ run-spec =
     loop-holds
     part-end-requires
     step-at-requires
-    desk-of-requires
     cast-p
     mul-d
     array-copy-out-d
