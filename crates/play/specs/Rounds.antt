@@ -73,7 +73,7 @@ printed input = cond (tooLong input) (text "too long\n") (linesText (linesOf inp
 -- ---- what is lent
 
 -- this text at the front of a buffer, the bytes behind it as they were; how long it is; and that it has room
-pub record Prints (line out out′ : List ℕ) (size : ℕ) : Type 0 where
-  pub bytes : out′ ≡ laidOver out 0 line
-  pub long : size ≡ length line
+pub record Prints (x out out′ : List ℕ) (size : ℕ) : Type 0 where
+  pub bytes : out′ ≡ laidOver out 0 x
+  pub long : size ≡ length x
   pub room : size ≤ length out′

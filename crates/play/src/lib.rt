@@ -8,7 +8,7 @@ ghost use lib.ListN.{length};
 ghost use Rattle.desk.specs.Calls.{modeFor};
 ghost use Rattle.laying.specs.Laying.{laidOver};
 ghost use Rattle.play.specs.Rounds.{tooLong, opens, printed, Prints};
-ghost use Rattle.play.specs.Parts.{Plays, shelfText};
+ghost use Rattle.play.specs.Parts.Running.{Plays, shelfText};
 use desk::Desk;
 use schedule::Start;
 

@@ -6,7 +6,7 @@ ghost use Rattle.desk.specs.Answers.{said};
 ghost use Rattle.desk.specs.Calls.{sendOf};
 ghost use Rattle.acting.specs.Said.{saying};
 ghost use Rattle.play.specs.Steps.{sheetRoom};
-ghost use Rattle.play.specs.Parts.{making, lengthSent, bySend, delivered, makeOf, saidFor, LatestFit, LatestFits, SenderThere};
+ghost use Rattle.play.specs.Parts.Making.{making, lengthSent, bySend, delivered, makeOf, saidFor, LatestFit, LatestFits, SenderThere};
 use acting::Act;
 use acting::Said;
 use desk::Answer;

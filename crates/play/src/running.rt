@@ -4,7 +4,7 @@ ghost use Prim.Native.Nat.{_+_, _<_, _≤_};
 ghost use lib.ListN.{length};
 ghost use Rattle.laying.specs.Laying.{laidOver};
 ghost use Rattle.acting.specs.Step.{saidStep, DeskIfBad};
-ghost use Rattle.play.specs.Parts.{AllOpened, clearTrays, noSheets, stepAt, nextAt, Runs, runOf};
+ghost use Rattle.play.specs.Parts.Running.{AllOpened, clearTrays, noSheets, stepAt, nextAt, Runs, runOf};
 use crate::making;
 use acting::Act;
 use acting::Step;

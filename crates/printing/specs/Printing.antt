@@ -2,32 +2,26 @@
 -- deliver `held`, any refused call `refused` and its number; `sent` turn number, entries; `taken` turn number, entries, entries applied,
 -- waited-for content (as a read prints it) or `-`; a read prints `blank`, `open` or `day` and number, or `waits`."
 -- Assumes nothing.
-use Prim.Native.Nat.{ℕ, suc, _+_}
+use Prim.Native.Nat.{ℕ, _+_}
 use mathlib.Core.Bool.{cond}
 use mathlib.Core.List.{List, _++_}
 use mathlib.Core.Option.{Option, none, some}
 use lib.Dec.{eqb, leb}
-use lib.IntN.{ℤ, pos, negsuc}
 use lib.ListN.{length}
 use Rattle.answer.specs.Answer.{Answer, refused, answered}
 use Rattle.content.specs.declared.Content.{Content}
 use Rattle.content.specs.declared.Content.the-variants.{Blank, Open, Day}
 use Rattle.laying.specs.Laying.{laidOver}
 use Rattle.text.specs.Text.{text}
-use Rattle.text.specs.Decimal.{decimal}
+use Rattle.text.specs.Decimal.{decimal, signedDecimal}
 use Rattle.desk.specs.Answers.{Value, opened, stored, holds, waits, sent, held, taken}
 use Rattle.acting.specs.Said.{Said, answers, nothingSent, badLine}
-
--- "a minus only before a day below 0"
-abbrev pub dayText : ℤ → List ℕ
-dayText (pos k) = decimal k
-dayText (negsuc k) = text "-" ++ decimal (suc k)
 
 -- "`blank`, `open` or `day` and number"
 abbrev pub contentText : Content → List ℕ
 contentText Blank = text "blank"
 contentText Open = text "open"
-contentText (Day z) = text "day " ++ dayText z
+contentText (Day z) = text "day " ++ signedDecimal z
 
 -- "waited-for content (as a read prints it) or `-`"
 abbrev pub waitedText : Option Content → List ℕ
@@ -59,7 +53,7 @@ saidText badLine = text "bad line"
 unfoldable pub lineText : ℕ → Said → List ℕ
 lineText number s = decimal number ++ text " " ++ saidText s ++ text "\n"
 
--- the letter of a mode that is in force: 1 sequential, 2 causal, 3 cache
+-- the letter of a mode that is in force: 1 sequential, 2 causal, 3 cache, and any other number, which is no mode in force, as cache
 abbrev pub letterText : ℕ → List ℕ
 letterText mode = cond (eqb mode 1) (text "s") (cond (eqb mode 2) (text "c") (text "k"))
 

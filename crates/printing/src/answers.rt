@@ -7,8 +7,8 @@ ghost use lib.ListN.{length};
 ghost use Rattle.acting.specs.Said.{saying};
 ghost use Rattle.desk.specs.Answers.{said as said·answer};
 ghost use Rattle.text.specs.Text.{text as text·bytes};
-ghost use Rattle.text.specs.Decimal.{decimal};
-ghost use Rattle.printing.specs.Printing.{dayText, contentText, answerText, saidText};
+ghost use Rattle.text.specs.Decimal.{decimal, signedDecimal};
+ghost use Rattle.printing.specs.Printing.{contentText, answerText, saidText};
 ghost use Rattle.printing.specs.Parts.{Puts, sentText, takenText, modeText};
 use acting::Said;
 use content::Content;
@@ -60,7 +60,7 @@ pub(crate) fn put_mode(out: &mut [u8], at: usize, mode: u8) -> usize
 // "`day` and number", "a minus only before a day below 0"
 fn put_day(out: &mut [u8], at: usize, day: i32) -> usize
     requires { ⌜ at + 15 ≤ length (now out) ⌝ }
-    ensures { λ r. ⌜ Puts 15 (now (out .entry)) at (text·bytes "day " ++ dayText day) (now (out .exit)) r ⌝ }
+    ensures { λ r. ⌜ Puts 15 (now (out .entry)) at (text·bytes "day " ++ signedDecimal day) (now (out .exit)) r ⌝ }
 {
     let size = numbers::magnitude(day as i64) as u32;
     if day < 0 {

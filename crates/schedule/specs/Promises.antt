@@ -3,7 +3,7 @@
 use mathlib.Core.Path.{_≡_}
 use mathlib.Core.List.{List, [], _∷_, _++_}
 use mathlib.Core.Option.{none, some}
-use Prim.Native.Nat.{ℕ, _+_, _<_, _≤_}
+use Prim.Native.Nat.{ℕ, _<_, _≤_}
 use Prim.Native.String.{String}
 use lib.IntN.{ℤ, pos, negsuc}
 use mir.Syntax.{w32}
@@ -14,9 +14,8 @@ use Rattle.content.specs.declared.Content.the-variants.{Open, Day}
 use Rattle.content.specs.Content.{dayOf}
 use Rattle.text.specs.Text.{text}
 use Rattle.text.specs.Parts.{space}
-use Rattle.text.specs.Decimal.{decimal}
+use Rattle.text.specs.Decimal.{decimal, signedDecimal}
 use Rattle.schedule.specs.Lines.{Line, ended, cut}
-use Rattle.schedule.specs.Words.{minus}
 use Rattle.schedule.specs.Start.{startIn}
 use Rattle.schedule.specs.Step.{stepIn}
 
@@ -73,11 +72,6 @@ pub record OtherForms : Type 0 where
 
 -- ---- every step that a desk can make has a line that says it
 
--- "a minus only before a day below 0"
-abbrev pub dayWord : ℤ → List ℕ
-dayWord (pos k) = decimal k
-dayWord (negsuc k) = minus ∷ decimal (k + 1)
-
 -- "Single spaces"
 abbrev pub spaced : List (List ℕ) → List ℕ
 spaced [] = []
@@ -88,7 +82,7 @@ pub record SaidReadsBack (n p : ℕ) : Type 0 where
   pub write-open : (cell : ℕ) → cell ≤ 4294967295
       → stepIn n (ended (spaced (text "w" ∷ decimal p ∷ decimal cell ∷ text "open" ∷ []))) ≡ some (record { desk = p; act = writes cell Open })
   pub write-day : (cell : ℕ) (d : ℤ) → cell ≤ 4294967295 → SFits w32 d
-      → stepIn n (ended (spaced (text "w" ∷ decimal p ∷ decimal cell ∷ dayWord d ∷ []))) ≡ some (record { desk = p; act = writes cell (Day d) })
+      → stepIn n (ended (spaced (text "w" ∷ decimal p ∷ decimal cell ∷ signedDecimal d ∷ []))) ≡ some (record { desk = p; act = writes cell (Day d) })
   pub read : (cell : ℕ) → cell ≤ 4294967295
       → stepIn n (ended (spaced (text "r" ∷ decimal p ∷ decimal cell ∷ []))) ≡ some (record { desk = p; act = reads cell })
   pub send : stepIn n (ended (spaced (text "s" ∷ decimal p ∷ []))) ≡ some (record { desk = p; act = sends })

@@ -4,6 +4,7 @@ use Prim.Native.Nat.{ℕ, zero, suc, _+_, _*_, _-_, _/_, _%_, min}
 use mathlib.Core.Bool.{Bool, true, false, cond, not, _&&_, _||_}
 use mathlib.Core.List.{List, [], _∷_}
 use lib.Dec.{eqb, leb, ltb}
+use lib.IntN.{ℤ, pos, negsuc}
 use lib.ListN.{length, drop}
 use Rattle.text.specs.Parts.{firstPart}
 use Rattle.text.specs.declared.Decimal.{Decimal}
@@ -17,10 +18,13 @@ abbrev pub digits : List ℕ → Bool
 digits [] = true
 digits (b ∷ bs) = isDigit b && digits bs
 
--- digits, at least one, of which the first is a 0 only if it is the only one
+-- "without leading zeros": the word has bytes, and its first is a 0 only if it is the only one
+abbrev pub leading : List ℕ → Bool
+leading [] = false
+leading (b ∷ bs) = not (eqb b 48) || eqb (length bs) 0
+
 unfoldable pub isDecimal : List ℕ → Bool
-isDecimal [] = false
-isDecimal (b ∷ bs) = (isDigit b && digits bs) && (not (eqb b 48) || eqb (length bs) 0)
+isDecimal word = digits word && leading word
 
 -- the number that digits make, behind those that make v
 unfoldable pub valueFrom : ℕ → List ℕ → ℕ
@@ -52,3 +56,8 @@ digitsOnto (suc most) k tail =
 -- the digits of a number of 32 bits, which has 10 of them at most
 unfoldable pub decimal : ℕ → List ℕ
 decimal k = digitsOnto 10 k []
+
+-- "a minus only before a day below 0"
+abbrev pub signedDecimal : ℤ → List ℕ
+signedDecimal (pos k) = decimal k
+signedDecimal (negsuc k) = 45 ∷ decimal (suc k)

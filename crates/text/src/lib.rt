@@ -6,8 +6,7 @@ ghost use mathlib.Core.Path.{_≡_};
 ghost use Prim.Native.Nat.{_+_, _*_, _-_, _≤_, _<_, min};
 ghost use lib.ListN.{length, take, drop};
 ghost use Rattle.text.specs.Parts.{firstPart};
-ghost use Rattle.text.specs.Decimal.{decimalAt};
-ghost use Rattle.text.specs.Leading.{leading};
+ghost use Rattle.text.specs.Decimal.{leading, decimalAt};
 
 mod printed;
 

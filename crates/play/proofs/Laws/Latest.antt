@@ -25,7 +25,7 @@ use Rattle.runs.specs.Run.{Sheet, sheetOn, sheetLeft}
 use Rattle.runs.proofs.Laws.Steps.{by-call}
 use Rattle.runs.proofs.Laws.Line.{more-long, more-same, more-last}
 use Rattle.play.specs.Steps.{latestFrom, latestOf}
-use Rattle.play.specs.Parts.{latestWith, LatestFit, LatestFits}
+use Rattle.play.specs.Parts.Making.{latestWith, LatestFit, LatestFits}
 
 -- ---- on the line
 

@@ -25,7 +25,8 @@ use Rattle.schedule.specs.Step.{stepIn}
 use Rattle.schedule.proofs.Laws.Lines.{no-lines, line-taken, line-ended, line-cut}
 use Rattle.schedule.proofs.Laws.Steps.{no-step-of-cut}
 use Rattle.play.specs.Rounds.{stepText, stepsText}
-use Rattle.play.specs.Parts.{SenderThere, stepAt, nextAt}
+use Rattle.play.specs.Parts.Making.{SenderThere}
+use Rattle.play.specs.Parts.Running.{stepAt, nextAt}
 
 -- ---- the code's step
 

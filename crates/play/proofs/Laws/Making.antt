@@ -1,4 +1,4 @@
--- What the functions of src/making.rt know at each return, and that it is what specs/Parts.antt says.
+-- What the functions of src/making.rt know at each return, and that it is what specs/Parts says.
 --   sent-is, none-sent            a sheet that was sent is what `sheetLeft` gives, and where none was that gives none
 --   sent-room                     it has room in what was lent
 --   sends, delivering, makes, saying-of    sets for `search`, one for each function
@@ -30,7 +30,7 @@ use Rattle.acting.specs.declared.Act.{Act}
 use Rattle.acting.specs.declared.Act.the-variants as act
 use Rattle.acting.specs.Said.{answers, nothingSent, badLine}
 use Rattle.play.specs.Steps.{sheetRoom}
-use Rattle.play.specs.Parts.{Making, making, byCall, byTray, lengthSent, latestWith, bySend, noCall, delivered, makeOf, saidFor, LatestFit, LatestFits, SenderThere}
+use Rattle.play.specs.Parts.Making.{Making, making, byCall, byTray, lengthSent, latestWith, bySend, noCall, delivered, makeOf, saidFor, LatestFit, LatestFits, SenderThere}
 
 pub room-is : replicate 396 0 ≡ sheetRoom
 unfolding sheetRoom

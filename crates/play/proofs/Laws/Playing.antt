@@ -25,14 +25,15 @@ use Rattle.acting.specs.declared.Act.{Act}
 use Rattle.acting.specs.declared.Act.the-variants as act
 use Rattle.acting.specs.declared.Said as declared-said
 use Rattle.acting.specs.declared.Step as declared
-use Rattle.acting.specs.Step.{Step, saidAct, saidStep, DeskIfBad}
+use Rattle.acting.specs.Step.{Step, saidStep, DeskIfBad}
 use Rattle.acting.specs.Said.{Said, saying}
 use Rattle.schedule.specs.Lines.{Line, ended, linesOf}
 use Rattle.schedule.proofs.Laws.Steps.{desk-is-there, sender-is-there}
 use Rattle.printing.specs.Printing.{Wrote, wrote, lineText}
 use Rattle.play.specs.Steps.{afterStep}
 use Rattle.play.specs.Rounds.{stepText, stepsText}
-use Rattle.play.specs.Parts.{making, makeOf, saidFor, SenderThere, noDesk, AllOpened, clearTrays, noSheets, stepAt, nextAt, Runs, runOf}
+use Rattle.play.specs.Parts.Making.{making, makeOf, saidFor, SenderThere}
+use Rattle.play.specs.Parts.Running.{noDesk, AllOpened, clearTrays, noSheets, stepAt, nextAt, Runs, runOf}
 use Rattle.play.proofs.Laws.Trays.{trayIn, tray-room, spliced}
 use Rattle.play.proofs.Laws.Standing.{Stands, stands-at-start, follows, nothing-done}
 use Rattle.play.proofs.Laws.Lines.{does, idle, within, line-here, behind, one-line, none-behind}

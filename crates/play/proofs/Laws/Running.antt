@@ -28,7 +28,7 @@ use Rattle.acting.specs.Step.{Step, saidStep}
 use Rattle.schedule.specs.Lines.{ended, linesOf}
 use Rattle.schedule.specs.Step.{stepIn}
 use Rattle.play.specs.Rounds.{tooLong, isAnswered, opens}
-use Rattle.play.specs.Parts.{noDesk, AllOpened, clearTrays, noSheets, stepAt, nextAt}
+use Rattle.play.specs.Parts.Running.{noDesk, AllOpened, clearTrays, noSheets, stepAt, nextAt}
 
 -- ---- the input's length
 

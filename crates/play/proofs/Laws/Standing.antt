@@ -1,7 +1,7 @@
 -- The records, trays and latest sheets that the code keeps stand for a state of the run, and do so after every step.
 --   Stands, stands-at-start           what that means; so it is when all desks were opened
 --   tray-long                         each desk's tray has 398 × n bytes
---   follows                           a step of the code (specs/Parts.antt) is the step of the run (specs/Steps.antt)
+--   follows                           a step of the code (specs/Parts) is the step of the run (specs/Steps.antt)
 -- Assumes nothing.
 use Prim.Native.Nat.{ℕ, zero, suc, _+_, _*_, _<_, _≤_}
 use mathlib.Core.Path.{_≡_, refl, sym, ap, _∙_, subst}
@@ -33,7 +33,8 @@ use Rattle.acting.specs.Step.{Step, saidAct}
 use Rattle.acting.specs.Step as spec
 use Rattle.acting.specs.Said.{answers, nothingSent, badLine}
 use Rattle.play.specs.Steps.{sheetRoom, latestFrom, latestOf, deliversLatest, saidBy, afterBy, saidOf, afterStep}
-use Rattle.play.specs.Parts.{Making, byTray, noCall, makeOf, saidFor, SenderThere, noDesk, AllOpened}
+use Rattle.play.specs.Parts.Making.{Making, byTray, noCall, makeOf, saidFor, SenderThere}
+use Rattle.play.specs.Parts.Running.{noDesk, AllOpened}
 use Rattle.play.proofs.Laws.Latest.{LatestIs, none-yet, sheet-there, Kept, kept-send}
 use Rattle.play.proofs.Laws.Trays.{trayIn, tray-room, tray-same, tray-other, tray-zeros}
 

@@ -29,7 +29,7 @@ use Rattle.schedule.specs.declared.Start.the-variants as cases
 use Rattle.schedule.proofs.Laws.Lines.{no-lines}
 use Rattle.printing.specs.Printing.{wrote, headerText}
 use Rattle.play.specs.Rounds.{tooLong, isAnswered, opens, badStart, runText, linesText, printed, Prints}
-use Rattle.play.specs.Parts.{Runs, runOf, Plays, shelfText}
+use Rattle.play.specs.Parts.Running.{Runs, runOf, Plays, shelfText}
 use Rattle.play.proofs.Laws.Lines.{ended-here, cut-here}
 use Rattle.play.proofs.Laws.Playing.{line-laid, line-end}
 

@@ -16,8 +16,7 @@ use mir.Syntax.{w32, w64}
 use mir.Val.{Fits, SFits, ofZ, toZ}
 use mir.Facts.{toZ-ofZ}
 use Rattle.text.specs.Text.{text}
-use Rattle.text.specs.Decimal.{decimal}
-use Rattle.printing.specs.Printing.{dayText}
+use Rattle.text.specs.Decimal.{decimal, signedDecimal}
 use Rattle.printing.specs.Parts.{Puts}
 use Rattle.printing.proofs.Laws.Puts.{puts-within, puts-same}
 
@@ -40,11 +39,11 @@ size-fits z h k e = subst (λ (n : ℕ). Fits w32 n) (sym (e ∙ ap natAbs (wide
 
 -- ---- by the sign
 
-below-text : (z : ℤ) → ltZ z (pos 0) ≡ true → text "day -" ++ decimal (natAbs z) ≡ text "day " ++ dayText z
+below-text : (z : ℤ) → ltZ z (pos 0) ≡ true → text "day -" ++ decimal (natAbs z) ≡ text "day " ++ signedDecimal z
 below-text (pos n) e = absurd (omega (arith, ltb-true n 0 e))
 below-text (negsuc n) e = refl
 
-up-text : (z : ℤ) → ltZ z (pos 0) ≡ false → text "day " ++ decimal (natAbs z) ≡ text "day " ++ dayText z
+up-text : (z : ℤ) → ltZ z (pos 0) ≡ false → text "day " ++ decimal (natAbs z) ≡ text "day " ++ signedDecimal z
 up-text (pos n) e = refl
 up-text (negsuc n) e = absurd (subst T e tt)
 
@@ -52,10 +51,10 @@ module _ (b : List ℕ) (at : ℕ) (z : ℤ) (b′ : List ℕ) (end : ℕ) (h : 
   size-is : k ≡ natAbs z
   size-is = e ∙ ap natAbs (wide-back z h)
 
-  pub day-below : ltZ (toZ w32 (ofZ w32 z)) (pos 0) ≡ true → Puts 15 b at (text "day -" ++ decimal k) b′ end → Puts 15 b at (text "day " ++ dayText z) b′ end
+  pub day-below : ltZ (toZ w32 (ofZ w32 z)) (pos 0) ≡ true → Puts 15 b at (text "day -" ++ decimal k) b′ end → Puts 15 b at (text "day " ++ signedDecimal z) b′ end
   day-below t p = puts-same (ap (λ (n : ℕ). text "day -" ++ decimal n) size-is ∙ below-text z (rw (toZ-ofZ h) at t)) p
 
-  pub day-up : ltZ (toZ w32 (ofZ w32 z)) (pos 0) ≡ false → Puts 14 b at (text "day " ++ decimal k) b′ end → Puts 15 b at (text "day " ++ dayText z) b′ end
+  pub day-up : ltZ (toZ w32 (ofZ w32 z)) (pos 0) ≡ false → Puts 14 b at (text "day " ++ decimal k) b′ end → Puts 15 b at (text "day " ++ signedDecimal z) b′ end
   day-up t p = puts-within 15 (omega arith) (puts-same (ap (λ (n : ℕ). text "day " ++ decimal n) size-is ∙ up-text z (rw (toZ-ofZ h) at t)) p)
 
 pub ruleset days-laid = (day-wide, size-fits, day-below, day-up)

@@ -11,14 +11,14 @@ use borrow.Author.Tests.{eq-eqb, ne-eqb}
 use Rattle.content.specs.declared.Content.{Content}
 use Rattle.content.specs.declared.Content.the-variants.{Blank, Open, Day}
 use Rattle.text.specs.Text.{text}
-use Rattle.text.specs.Decimal.{decimal}
+use Rattle.text.specs.Decimal.{decimal, signedDecimal}
 use Rattle.desk.specs.declared.Answer as desk
 use Rattle.desk.specs.declared.Answer.the-variants as answer
 use Rattle.desk.specs.Answers.{said}
 use Rattle.acting.specs.declared.Said as acting
 use Rattle.acting.specs.declared.Said.the-variants as saids
 use Rattle.acting.specs.Said.{saying}
-use Rattle.printing.specs.Printing.{dayText, contentText, answerText, saidText}
+use Rattle.printing.specs.Printing.{contentText, answerText, saidText}
 use Rattle.printing.specs.Parts.{Puts, sentText, takenText, modeText}
 use Rattle.printing.proofs.Laws.Puts.{puts-same, puts-of, _then_}
 
@@ -48,7 +48,7 @@ module _ (b : List ℕ) (at : ℕ) (c : Content) (b′ : List ℕ) (end : ℕ) w
   pub open-laid : c ≡ Open → Puts 4 b at (text "open") b′ end → Puts 15 b at (contentText c) b′ end
   open-laid e p = puts-of contentText 15 (omega arith) e p
 
-  pub day-laid : (z : ℤ) → c ≡ Day z → Puts 15 b at (text "day " ++ dayText z) b′ end → Puts 15 b at (contentText c) b′ end
+  pub day-laid : (z : ℤ) → c ≡ Day z → Puts 15 b at (text "day " ++ signedDecimal z) b′ end → Puts 15 b at (contentText c) b′ end
   day-laid z e p = puts-of contentText 15 (omega arith) e p
 
 pub ruleset contents-laid = (blank-laid, open-laid, day-laid)

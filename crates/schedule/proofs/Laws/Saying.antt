@@ -8,7 +8,7 @@ use mathlib.Core.Path.{_≡_, refl, sym, ap, _∙_, subst}
 use mathlib.Core.List.{List, [], _∷_, _++_}
 use mathlib.Core.Bool.{Bool, true, false, not, _&&_, false≢true}
 use mathlib.Core.Option.{some}
-use Prim.Native.Nat.{ℕ, _+_, _-_, _<_, _≤_}
+use Prim.Native.Nat.{ℕ, _-_, _<_, _≤_, suc}
 use native.Mathlib.Omega.{arith}
 use lib.Dec.{eqb, leb}
 use lib.IntN.{ℤ, pos, negsuc}
@@ -19,15 +19,14 @@ use Rattle.acting.specs.Step.{writes}
 use Rattle.content.specs.declared.Content.the-variants.{Day}
 use Rattle.text.specs.Text.{text}
 use Rattle.text.specs.Parts.{parts, space}
-use Rattle.text.specs.Leading.{leading}
-use Rattle.text.specs.Decimal.{isDigit, digits, isDecimal, value, decimal}
+use Rattle.text.specs.Decimal.{isDigit, digits, isDecimal, value, decimal, leading, signedDecimal}
 use Rattle.text.specs.Promises.{ReadsBack}
 use Rattle.text.proofs.Laws.Decimal.{and-split, decimal-is}
 use Rattle.text.proofs.Laws.ReadBack.{printed-reads-back}
 use Rattle.schedule.specs.Lines.{ended}
 use Rattle.schedule.specs.Words.{is, isNumber, isDesk, isDay, dayIn, isContent, contentIn}
 use Rattle.schedule.specs.Step.{stepOf, stepIn}
-use Rattle.schedule.specs.Promises.{dayWord, spaced, SaidReadsBack, EveryStepCanBeSaid}
+use Rattle.schedule.specs.Promises.{spaced, SaidReadsBack, EveryStepCanBeSaid}
 
 -- ---- words
 
@@ -124,21 +123,21 @@ minus-said word t least most =
       day = refl;
     }
 
-day-said : (d : ℤ) → SFits w32 d → Said (dayWord d) d
+day-said : (d : ℤ) → SFits w32 d → Said (signedDecimal d) d
 day-said (pos k) fits =
     let small : k ≤ 2147483647 = omega arith in
     let reads = back k (omega arith) in
     subst (λ (v : ℕ). Said (decimal k) (pos v)) (reads .same-number) (plain-said (decimal k) (reads .is-decimal) (omega (arith, reads .same-number)))
 day-said (negsuc k) fits =
     let small : k ≤ 2147483647 = omega arith in
-    let reads = back (k + 1) (omega arith) in
-    let one-less : value (decimal (k + 1)) - 1 ≡ k = omega (arith, reads .same-number) in
-    subst (λ (v : ℕ). Said (45 ∷ decimal (k + 1)) (negsuc v)) one-less
-    (minus-said (decimal (k + 1)) (reads .is-decimal) (omega (arith, reads .same-number)) (omega (arith, reads .same-number)))
+    let reads = back (suc k) (omega arith) in
+    let one-less : value (decimal (suc k)) - 1 ≡ k = omega (arith, reads .same-number) in
+    subst (λ (v : ℕ). Said (45 ∷ decimal (suc k)) (negsuc v)) one-less
+    (minus-said (decimal (suc k)) (reads .is-decimal) (omega (arith, reads .same-number)) (omega (arith, reads .same-number)))
 
-day-free : (d : ℤ) → SFits w32 d → free (dayWord d) ≡ true
+day-free : (d : ℤ) → SFits w32 d → free (signedDecimal d) ≡ true
 day-free (pos k) fits = number-free k (omega arith)
-day-free (negsuc k) fits = number-free (k + 1) (omega arith)
+day-free (negsuc k) fits = number-free (suc k) (omega arith)
 
 -- ---- steps
 
@@ -159,11 +158,11 @@ module _ (n p : ℕ) (few : n ≤ 4294967296) (there : p < n) where
   three-free k c l t = rw (number-free p small, number-free k l, t)
 
   day-written : (k : ℕ) (d : ℤ) → k ≤ 4294967295 → SFits w32 d
-      → stepIn n (ended (spaced (text "w" ∷ decimal p ∷ decimal k ∷ dayWord d ∷ []))) ≡ some (record { desk = p; act = writes k (Day d) })
+      → stepIn n (ended (spaced (text "w" ∷ decimal p ∷ decimal k ∷ signedDecimal d ∷ []))) ≡ some (record { desk = p; act = writes k (Day d) })
   unfolding stepIn is
   day-written k d l fits =
       let said = day-said d fits in
-      ap (stepOf n) (words-spaced (text "w") (decimal p ∷ decimal k ∷ dayWord d ∷ []) refl (three-free k (dayWord d) l (day-free d fits)))
+      ap (stepOf n) (words-spaced (text "w") (decimal p ∷ decimal k ∷ signedDecimal d ∷ []) refl (three-free k (signedDecimal d) l (day-free d fits)))
       ∙ rw (desk-said p small n there, number-said k l, said .content, value-p, back k l .same-number, said .day)
 
   every-said : SaidReadsBack n p

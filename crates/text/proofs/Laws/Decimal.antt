@@ -1,6 +1,6 @@
 -- Laws of what is read of a decimal number (specs/Decimal.antt).
 --   and-split                               both parts of `a && b`
---   decimal-is                              a word is decimal if it leads well and is of digits: `leading` (specs/Leading.antt) and `digits`
+--   decimal-is                              a word is decimal if it leads well and is of digits: `leading` and `digits`
 --   no-lead, leads-by, leads-room           what `leads` returns, and what it requires
 --   value-grows, capped-sooner              a number with more digits is no smaller, so that it may be capped at each of them
 --   DecimalSoFar, decimal-loop              the loop of `decimal_at`, and its laws as a set for `search`
@@ -15,8 +15,7 @@ use lib.ListN.{length, getD, take, drop, length-drop}
 use lib.Seq.{drop-cons, length-take-le}
 use borrow.Author.Tests.{leb-true, leb-false}
 use Rattle.text.specs.Parts.{firstPart}
-use Rattle.text.specs.Leading.{leading}
-use Rattle.text.specs.Decimal.{isDigit, digits, isDecimal, valueFrom, value, beyond, decimalAt}
+use Rattle.text.specs.Decimal.{isDigit, digits, leading, isDecimal, valueFrom, value, beyond, decimalAt}
 use Rattle.text.proofs.Laws.Parts.{GoesOn, empty, part-taken, part-room, part-goes-on}
 
 pub and-split : (a b : Bool) → a && b ≡ true → (a ≡ true) × (b ≡ true)
@@ -27,8 +26,7 @@ and-split false b e = absurd (false≢true e)
 
 pub decimal-is : (word : List ℕ) → isDecimal word ≡ leading word && digits word
 unfolding isDecimal
-decimal-is [] = refl
-decimal-is (b ∷ bs) = and-comm (isDigit b && digits bs) (not (eqb b 48) || eqb (length bs) 0)
+decimal-is word = and-comm (digits word) (leading word)
 
 lead-of : (b k : ℕ) (rest : List ℕ) → k ≤ length rest → not (eqb b 48) || eqb (suc k) 1 ≡ leading (take (suc k) (b ∷ rest))
 lead-of b k rest h =

@@ -11,8 +11,7 @@ use native.Mathlib.Nat.{add-zero, mul-le-mul-right, pow-le-pow-right, pow-succ'}
 use lib.Dec.{eqb, leb, ltb}
 use lib.ListN.{length}
 use borrow.Author.Tests.{le-leb, leb-true, leb-false, ltb-true, ltb-false, le-ltb, lt-ltb, ne-eqb, eqb-true, eqb-false}
-use Rattle.text.specs.Leading.{leading}
-use Rattle.text.specs.Decimal.{isDigit, digits, isDecimal, valueFrom, value, digitsOnto, decimal}
+use Rattle.text.specs.Decimal.{isDigit, digits, leading, isDecimal, valueFrom, value, digitsOnto, decimal}
 use Rattle.text.specs.Promises.{PrintedReadsBack, ReadPrintsBack}
 use Rattle.text.proofs.Laws.Parts.{empty}
 use Rattle.text.proofs.Laws.Decimal.{and-split, decimal-is}
