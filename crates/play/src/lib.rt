@@ -2,6 +2,7 @@
 //
 // `play` is all there is between standard input and standard output. Its promise is one equation with
 // `printed` (specs/Rounds.antt), which reads like 01's section, for every input.
+ghost use mathlib.Core.Bool.{true};
 ghost use mathlib.Core.Path.{_≡_};
 ghost use Prim.Native.Nat.{_≤_};
 ghost use lib.ListN.{length};
@@ -42,15 +43,15 @@ fn opens_so(n: u32, m: u32, mode: u32) -> bool
     h.n != 0
 }
 
-// The mode in force: "Mode 0 means the default: causal."
-fn mode_in_force(mode: u32) -> u8
-    requires { ⌜ mode ≤ 3 ⌝ }
+// The mode in force: that of a desk that was opened so.
+fn mode_in_force(n: u32, m: u32, mode: u32) -> u8
+    requires { ⌜ opens (record { n = n; m = m; mode = mode }) ≡ true ⌝ }
     ensures { λ r. ⌜ r ≡ modeFor mode ⌝ }
 {
-    if mode == 0 {
-        return 2;
-    }
-    mode as u8
+    let o = Desk::open(n, m, 0, mode);
+    let d = o.desk;
+    let h = d.head;
+    h.mode
 }
 
 // A shelf whose desks can be opened: the header, and the steps from `from` on.
@@ -58,7 +59,7 @@ fn play_shelf(input: &[u8], from: usize, n: u32, m: u32, mode: u32, out: &mut [u
     requires { ⌜ Plays (now input) from (record { n = n; m = m; mode = mode }) (now out) ⌝ }
     ensures { λ r. ⌜ Prints (shelfText (now (input .entry)) from (record { n = n; m = m; mode = mode })) (now (out .entry)) (now (out .exit)) r ⌝ }
 {
-    let at = printing::put_header(out, 0, n, m, mode_in_force(mode));
+    let at = printing::put_header(out, 0, n, m, mode_in_force(n, m, mode));
     running::run(input, from, n, m, mode, out, at)
 }
 

@@ -1,6 +1,6 @@
 -- What `play_shelf` and `play` know at each return (src/lib.rt), and that it is what `printed` says (specs/Rounds.antt).
---   modes                             a set for `search`: `mode_in_force`
---   mode-most, can-run, shelf-played  `play_shelf`
+--   opens-says, mode-by-head          a desk that can be opened: its numbers, and its mode
+--   desks-open, can-run, shelf-played `play_shelf`
 --   plays                             a set for `search`: `play`
 -- Assumes nothing.
 use Prim.Native.Nat.{ℕ, _+_, _-_, _<_, _≤_}
@@ -12,11 +12,12 @@ use native.Mathlib.Omega.{arith}
 use lib.Dec.{ltb}
 use lib.ListN.{length, take, drop, length-append}
 use lib.Seq.{length-take-le}
-use borrow.Author.Tests.{ltb-false, eq-eqb, ne-eqb}
+use borrow.Author.Tests.{ltb-false}
 use Rattle.laying.specs.Laying.{laidOver}
 use Rattle.laying.proofs.Laws.{laid-behind}
 use Rattle.tray.proofs.Laws.Parts.{laid-long}
-use Rattle.desk.specs.Answers.{opened, Done}
+use Rattle.desk.specs.declared.Outcome.{Outcome}
+use Rattle.desk.specs.Answers.{opened, Done, outcome}
 use Rattle.desk.specs.Calls.{modeFor, openRules, blankDesk, freshHead, openOf}
 use Rattle.desk.proofs.Laws.Allowed.{OpenAllowed, open-allows}
 use Rattle.runs.proofs.Laws.Steps.{by-call}
@@ -32,16 +33,6 @@ use Rattle.play.specs.Rounds.{tooLong, isAnswered, opens, badStart, runT
 use Rattle.play.specs.Parts.Running.{Runs, runOf, Plays, shelfText}
 use Rattle.play.proofs.Laws.Lines.{ended-here, cut-here}
 use Rattle.play.proofs.Laws.Playing.{line-laid, line-end}
-
--- ---- the mode
-
-pub mode-default : (mode : ℕ) → mode ≡ 0 → 2 ≡ modeFor mode
-mode-default mode e = sym (ap (λ (t : Bool). cond t 2 mode) (eq-eqb mode 0 e))
-
-pub mode-said : (mode : ℕ) → (mode ≡ 0 → ⊥) → mode ≡ modeFor mode
-mode-said mode e = sym (ap (λ (t : Bool). cond t 2 mode) (ne-eqb mode 0 e))
-
-pub ruleset modes = (mode-default, mode-said)
 
 -- ---- a shelf whose desks can be opened
 
@@ -65,9 +56,21 @@ opens-says n m mode =
     (λ k first e. absurd (false-is-not-true e))
     (λ silent e. open-allows n m 0 mode silent)
 
+-- the mode in force is an opened desk's
+pub mode-by-head : (n m mode : ℕ) → opens (record { n = n; m = m; mode = mode }) ≡ true → (o : Outcome) → outcome o [] ≡ openOf n m 0 mode → o .desk .head .mode ≡ modeFor mode
+unfolding openOf
+mode-by-head n m mode can o is =
+    ap (λ (x : Done). x .desk .head .mode) is
+    ∙ by-call (λ (x : Done). isAnswered (x .answer) ≡ true → x .desk .head .mode ≡ modeFor mode) (openRules n m 0 mode) (blankDesk (freshHead 0 0 0 0)) [] opened
+    (blankDesk (freshHead n m 0 (modeFor mode)))
+    []
+    (λ k first e. absurd (false-is-not-true e))
+    (λ silent e. refl)
+    can
+
 module _ (input : List ℕ) (from n m mode : ℕ) (out : List ℕ) (asked : Plays input from (record { n = n; m = m; mode = mode }) out) where
-  pub mode-most : mode ≤ 3
-  mode-most = opens-says n m mode (asked .can-open) .mode-most
+  pub desks-open : opens (record { n = n; m = m; mode = mode }) ≡ true
+  desks-open = asked .can-open
 
   module _ (force : ℕ) (force-is : force ≡ modeFor mode) (out₁ : List ℕ) (at : ℕ) (put : record { bytes = out₁; end = at } ≡ wrote out 0 (headerText n m force)) (near : at ≤ 0 + 64) where
     room : 0 + 64 ≤ length out
