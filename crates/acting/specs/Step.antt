@@ -44,9 +44,5 @@ deskIfBad p (act.Deliver q) = Unit {0}
 deskIfBad p act.Take = Unit {0}
 deskIfBad p act.Bad = p ≡ 0
 
--- so it has, whatever the desk, if the act is not of another form
-abbrev pub NotBad : declared-act.Act → Type 0
-NotBad a = (p : ℕ) → deskIfBad p a
-
 abbrev pub DeskIfBad : declared.Step → Type 0
 DeskIfBad s = deskIfBad (s .desk) (s .act)

@@ -21,7 +21,7 @@ use Rattle.schedule.specs.Step.{stepIn}
 use Rattle.printing.specs.Printing.{lineText, headerText}
 use Rattle.play.specs.Steps.{saidOf, afterStep}
 
--- "16,384 bytes and 1,000 steps (lines after the first) at most"
+-- "16,384 bytes and 1,000 steps (lines after the first) at most": 1,001 lines
 unfoldable pub tooLong : List ℕ → Bool
 tooLong input = ltb 16384 (length input) || ltb 1001 (length (linesOf input))
 

@@ -1,7 +1,8 @@
 // A run of `rounds`: a schedule's bytes in, the bytes it prints out. 01, "The program `rounds`".
 //
-// `play` is all there is between standard input and standard output. Its promise is one equation with
-// `printed` (specs/Rounds.antt), which reads like 01's section, for every input.
+// `play` is all there is between standard input and standard output. Its promise is one record,
+// `Prints`, of the definition `printed` (specs/Rounds.antt), which reads like 01's section, for every
+// input.
 ghost use mathlib.Core.Bool.{true};
 ghost use mathlib.Core.Path.{_≡_};
 ghost use Prim.Native.Nat.{_≤_};

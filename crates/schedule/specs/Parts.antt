@@ -9,7 +9,7 @@ use lib.Dec.{eqb, leb}
 use lib.IntN.{pos, negsuc}
 use lib.ListN.{length, drop}
 use Rattle.acting.specs.declared.Act.{Act}
-use Rattle.acting.specs.Step.{Step, saidAct}
+use Rattle.acting.specs.Step.{Step, saidAct, deskIfBad}
 use Rattle.content.specs.declared.Content.the-variants.{Blank, Open, Day}
 use Rattle.numbers.specs.Limits.{within}
 use Rattle.text.specs.declared.Decimal.{Decimal}
@@ -71,3 +71,7 @@ abbrev pub aloneIn : ℕ → Act → List (List ℕ) → Option Step
 aloneIn n a [] = none
 aloneIn n a (p ∷ []) = cond (isDesk n p) (saidAct (value p) a) none
 aloneIn n a (p ∷ word ∷ words) = none
+
+-- an act that is not of another form: whatever desk a step with it names, `DeskIfBad` (crates/acting/specs/Step.antt) asks nothing of it
+abbrev pub NotBad : Act → Type 0
+NotBad a = (p : ℕ) → deskIfBad p a

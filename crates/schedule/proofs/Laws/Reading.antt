@@ -18,7 +18,7 @@ use borrow.Author.Tests.{ltb-false, ne-eqb}
 use Rattle.acting.specs.declared.Act.{Act}
 use Rattle.acting.specs.declared.Act.the-variants as act
 use Rattle.acting.specs.declared.Step as declared
-use Rattle.acting.specs.Step.{writes, reads, sends, delivers, takes, Step, saidAct, saidStep, deskIfBad, NotBad}
+use Rattle.acting.specs.Step.{writes, reads, sends, delivers, takes, Step, saidAct, saidStep, deskIfBad}
 use Rattle.content.specs.declared.Content.{Content}
 use Rattle.content.specs.declared.Content.the-variants.{Blank}
 use Rattle.text.specs.Parts.{parts, space}
@@ -30,7 +30,7 @@ use Rattle.schedule.specs.declared.words.Given.{Given}
 use Rattle.schedule.specs.Lines.{ended}
 use Rattle.schedule.specs.Words.{is, isNumber, isDesk, isContent, contentIn}
 use Rattle.schedule.specs.Step.{writeIn, readIn, deliverIn, actIn, stepOf, stepIn}
-use Rattle.schedule.specs.Parts.{wordAt, wordsAt, numberAt, contentAt, letterOf, letterAt, aloneIn}
+use Rattle.schedule.specs.Parts.{wordAt, wordsAt, numberAt, contentAt, letterOf, letterAt, aloneIn, NotBad}
 use Rattle.schedule.proofs.Laws.Words.{not-before, letter-is}
 
 -- where the word ends that starts at a place
