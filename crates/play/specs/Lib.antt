@@ -1,4 +1,3 @@
 pub mod Steps
 pub mod Rounds
 pub mod Parts
-pub mod Promises

@@ -47,7 +47,7 @@ abbrev pub isAnswered : Answer Value → Bool
 isAnswered (refused number) = false
 isAnswered (answered v) = true
 
--- its desks can be opened; the first of them can exactly if all can (`FirstAsAll`, specs/Promises.antt)
+-- its desks can be opened; the first of them can exactly if all can (`FirstAsAll`, crates/ruled/specs/Promises.antt)
 abbrev pub opens : Start → Bool
 opens x = isAnswered (openOf (x .n) (x .m) 0 (x .mode) .answer)
 

@@ -30,10 +30,10 @@ use Rattle.schedule.specs.Step.{stepIn}
 use Rattle.schedule.specs.Promises.{Fair}
 use Rattle.schedule.proofs.Laws.Promised.{steps-are-fair}
 use Rattle.printing.specs.Printing.{lineText, headerText}
 use Rattle.play.specs.Steps.{latestFrom, latestOf, deliversLatest, callBy, callOf, saidBy, saidOf, afterBy, afterStep}
 use Rattle.play.specs.Rounds.{stepText, stepsText, shelfOf, badStart, runText, linesText, printed}
-use Rattle.play.specs.Promises.{FirstAsAll, stepsThen, stepsIn, endsThen, endsBadly, callsThen, callsOf, saysOf, numbered, answersIn, SchedulesAreRuns}
+use Rattle.ruled.specs.Promises.{FirstAsAll, stepsThen, stepsIn, endsThen, endsBadly, callsThen, callsOf, saysOf, numbered, answersIn, SchedulesAreRuns}
 use Rattle.play.proofs.Laws.Whole.{opens-says}
 use Rattle.text.specs.Text.{text}
 
 -- ---- the desks
