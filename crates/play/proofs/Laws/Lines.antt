@@ -27,6 +27,7 @@ use Rattle.schedule.proofs.Laws.Steps.{no-step-of-cut}
 use Rattle.play.specs.Rounds.{stepText, stepsText}
 use Rattle.play.specs.Parts.Making.{SenderThere}
 use Rattle.play.specs.Parts.Running.{stepAt, nextAt}
+use Rattle.play.proofs.Laws.Standing.{some-is-not-none}
 
 -- ---- the code's step
 
@@ -63,13 +64,6 @@ module _ (p end size : ℕ) where
   idle a e = subst (Tells a) e (tells a)
 
 -- ---- the line at a place
-
-none-is-not-some : {A : Type 0} {x : A} → _≡_ {A = Option A} none (some x) → ⊥
-none-is-not-some {A} e = subst is-none e tt
-  where
-    is-none : Option A → Type 0
-    is-none none = Unit {0}
-    is-none (some y) = ⊥
 
 module _ (n : ℕ) (input : List ℕ) (i end : ℕ) (before : i < length input) (ends : end ≡ i + length (firstPart lineFeed (drop i input))) where
   pub within : end ≤ length input
@@ -116,7 +110,7 @@ module _ (n : ℕ) (input : List ℕ) (i end : ℕ) (before : i < length input) 
             says = sym (ap (λ (b : Bool). cond b (stepIn n (ended (take (end - i) (drop i input)))) none) t) ∙ e;
             one-less = ap (λ (ls : List Line). length ls) (ended-here h);
           }
-      by-test false t = absurd (none-is-not-some (sym (ap (λ (b : Bool). cond b (stepIn n (ended (take (end - i) (drop i input)))) none) t) ∙ e))
+      by-test false t = absurd (some-is-not-none (sym e ∙ ap (λ (b : Bool). cond b (stepIn n (ended (take (end - i) (drop i input)))) none) t))
 
   -- there is a line here
   pub one-line : 1 ≤ length (linesOf (drop i input))

@@ -38,7 +38,7 @@ use Rattle.play.specs.Parts.Running.{noDesk, AllOpened}
 use Rattle.play.proofs.Laws.Latest.{LatestIs, none-yet, sheet-there, Kept, kept-send}
 use Rattle.play.proofs.Laws.Trays.{trayIn, tray-room, tray-same, tray-other, tray-zeros}
 
-some-is-not-none : {A : Type 0} {x : A} → _≡_ {A = Option A} (some x) none → ⊥
+pub some-is-not-none : {A : Type 0} {x : A} → _≡_ {A = Option A} (some x) none → ⊥
 some-is-not-none {A} e = subst is-some e tt
   where
     is-some : Option A → Type 0

@@ -5,7 +5,7 @@
 -- Assumes nothing.
 use Prim.Native.Nat.{ℕ, _+_, _-_, _<_, _≤_}
 use mathlib.Core.Path.{_≡_, refl, sym, ap, _∙_, subst}
-use mathlib.Core.Bool.{Bool, true, false, cond, _||_}
+use mathlib.Core.Bool.{Bool, true, false, cond, _||_, false≢true}
 use mathlib.Core.List.{List, [], _∷_, _++_}
 use mathlib.Core.Option.{Option}
 use native.Mathlib.Omega.{arith}
@@ -36,15 +36,8 @@ use Rattle.play.proofs.Laws.Playing.{line-laid, line-end}
 
 -- ---- a shelf whose desks can be opened
 
-false-is-not-true : false ≡ true → ⊥
-false-is-not-true e = subst is-false e tt
-  where
-    is-false : Bool → Type 0
-    is-false false = Unit {0}
-    is-false true = ⊥
-
 or-split : (a b : Bool) → a || b ≡ false → (a ≡ false) × (b ≡ false)
-or-split true b e = absurd (false-is-not-true (sym e))
+or-split true b e = absurd (false≢true (sym e))
 or-split false b e = (refl, e)
 
 pub opens-says : (n m mode : ℕ) → opens (record { n = n; m = m; mode = mode }) ≡ true → OpenAllowed n m 0 mode
@@ -53,7 +46,7 @@ opens-says n m mode =
     by-call (λ (x : Done). isAnswered (x .answer) ≡ true → OpenAllowed n m 0 mode) (openRules n m 0 mode) (blankDesk (freshHead 0 0 0 0)) [] opened
     (blankDesk (freshHead n m 0 (modeFor mode)))
     []
-    (λ k first e. absurd (false-is-not-true e))
+    (λ k first e. absurd (false≢true e))
     (λ silent e. open-allows n m 0 mode silent)
 
 -- the mode in force is an opened desk's
@@ -64,7 +57,7 @@ mode-by-head n m mode can o is =
     ∙ by-call (λ (x : Done). isAnswered (x .answer) ≡ true → x .desk .head .mode ≡ modeFor mode) (openRules n m 0 mode) (blankDesk (freshHead 0 0 0 0)) [] opened
     (blankDesk (freshHead n m 0 (modeFor mode)))
     []
-    (λ k first e. absurd (false-is-not-true e))
+    (λ k first e. absurd (false≢true e))
     (λ silent e. refl)
     can
 

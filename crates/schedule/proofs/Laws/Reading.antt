@@ -37,6 +37,33 @@ use Rattle.schedule.proofs.Laws.Words.{not-before, letter-is}
 abbrev endAt : List ℕ → ℕ → ℕ
 endAt line from = from + length (wordAt line from)
 
+-- the first three words from a place on, whatever is made of the list of words; and two numbers that are read one after the other
+module _ (line : List ℕ) (from : ℕ) where
+  abbrev len : ℕ
+  len = length line
+
+  abbrev e₁ : ℕ
+  e₁ = endAt line from
+
+  abbrev e₂ : ℕ
+  e₂ = endAt line (e₁ + 1)
+
+  abbrev e₃ : ℕ
+  e₃ = endAt line (e₂ + 1)
+
+  by-three : (f : List (List ℕ) → Option Step)
+      → f (wordsAt line from)
+      ≡ f (wordAt line from ∷ cond (ltb e₁ len) (wordAt line (e₁ + 1) ∷ cond (ltb e₂ len) (wordAt line (e₂ + 1) ∷ cond (ltb e₃ len) (wordsAt line (e₃ + 1)) []) []) [])
+  by-three f =
+      ap f (parts-on space line from)
+      ∙ ap (λ (l : List (List ℕ)). f (wordAt line from ∷ cond (ltb e₁ len) l [])) (parts-on space line (e₁ + 1))
+      ∙ ap (λ (l : List (List ℕ)). f (wordAt line from ∷ cond (ltb e₁ len) (wordAt line (e₁ + 1) ∷ cond (ltb e₂ len) l []) [])) (parts-on space line (e₂ + 1))
+
+  in-turn : (g : Number → Number → Option Step) (p q : Number) → p ≡ numberAt line from → q ≡ numberAt line (p .end + 1)
+      → g (numberAt line from) (numberAt line (e₁ + 1)) ≡ g p q
+  unfolding numberAt
+  in-turn g p q p-is q-is = ap (λ (x : Number). g x (numberAt line (x .end + 1))) (sym p-is) ∙ ap (g p) (sym q-is)
+
 -- ---- "`r` desk cell"
 
 reads-by-words : (n : ℕ) (p cell word : List ℕ) (words : List (List ℕ)) (t₁ t₂ : Bool)
@@ -68,20 +95,14 @@ module _ (line : List ℕ) (from n : ℕ) where
       let len = length line in
       let e₁ = endAt line from in
       let e₂ = endAt line (e₁ + 1) in
-      ap (readIn n) (parts-on space line from)
-      ∙ ap (λ (l : List (List ℕ)). readIn n (wordAt line from ∷ cond (ltb e₁ len) l [])) (parts-on space line (e₁ + 1))
-      ∙ ap (λ (l : List (List ℕ)). readIn n (wordAt line from ∷ cond (ltb e₁ len) (wordAt line (e₁ + 1) ∷ cond (ltb e₂ len) l []) [])) (parts-on space line (e₂ + 1))
+      by-three line from (readIn n)
       ∙ reads-by-words n (wordAt line from) (wordAt line (e₁ + 1)) _ _ (ltb e₁ len) (ltb e₂ len)
       ∙ reads-by-numbers (ltb e₁ len && not (ltb e₂ len)) (isNumber (wordAt line from)) (isNumber (wordAt line (e₁ + 1))) n (value (wordAt line from)) (value (wordAt line (e₁ + 1)))
       ∙ rw (not-before e₂ len)
 
   module _ (p cell : Number) (p-is : p ≡ numberAt line from) (cell-is : cell ≡ numberAt line (p .end + 1)) where
     reads-by-code : readIn n (wordsAt line from) ≡ read-of n (length line) p cell
-    unfolding numberAt
-    reads-by-code =
-        reads-whole
-        ∙ ap (λ (x : Number). read-of n (length line) x (numberAt line (x .end + 1))) (sym p-is)
-        ∙ ap (read-of n (length line) p) (sym cell-is)
+    reads-by-code = reads-whole ∙ in-turn line from (read-of n (length line)) p cell p-is cell-is
 
     pub read-found : read-test n (length line) p cell ≡ true → some (record { desk = p .value; act = reads (cell .value) }) ≡ readIn n (wordsAt line from)
     read-found t = sym (reads-by-code ∙ rw t)
@@ -122,20 +143,14 @@ module _ (line : List ℕ) (from n : ℕ) where
       let len = length line in
       let e₁ = endAt line from in
       let e₂ = endAt line (e₁ + 1) in
-      ap (deliverIn n) (parts-on space line from)
-      ∙ ap (λ (l : List (List ℕ)). deliverIn n (wordAt line from ∷ cond (ltb e₁ len) l [])) (parts-on space line (e₁ + 1))
-      ∙ ap (λ (l : List (List ℕ)). deliverIn n (wordAt line from ∷ cond (ltb e₁ len) (wordAt line (e₁ + 1) ∷ cond (ltb e₂ len) l []) [])) (parts-on space line (e₂ + 1))
+      by-three line from (deliverIn n)
       ∙ delivers-by-words n (wordAt line from) (wordAt line (e₁ + 1)) _ _ (ltb e₁ len) (ltb e₂ len)
       ∙ delivers-by-numbers (ltb e₁ len && not (ltb e₂ len)) (isNumber (wordAt line from)) (isNumber (wordAt line (e₁ + 1))) n (value (wordAt line from)) (value (wordAt line (e₁ + 1)))
       ∙ rw (not-before e₂ len)
 
   module _ (q p : Number) (q-is : q ≡ numberAt line from) (p-is : p ≡ numberAt line (q .end + 1)) where
     delivers-by-code : deliverIn n (wordsAt line from) ≡ deliver-of n (length line) q p
-    unfolding numberAt
-    delivers-by-code =
-        delivers-whole
-        ∙ ap (λ (x : Number). deliver-of n (length line) x (numberAt line (x .end + 1))) (sym q-is)
-        ∙ ap (deliver-of n (length line) q) (sym p-is)
+    delivers-by-code = delivers-whole ∙ in-turn line from (deliver-of n (length line)) q p q-is p-is
 
     pub deliver-found : deliver-test n (length line) q p ≡ true → some (record { desk = p .value; act = delivers (q .value) }) ≡ deliverIn n (wordsAt line from)
     deliver-found t = sym (delivers-by-code ∙ rw t)
@@ -182,9 +197,7 @@ module _ (line : List ℕ) (from n : ℕ) where
       let e₁ = endAt line from in
       let e₂ = endAt line (e₁ + 1) in
       let e₃ = endAt line (e₂ + 1) in
-      ap (writeIn n) (parts-on space line from)
-      ∙ ap (λ (l : List (List ℕ)). writeIn n (wordAt line from ∷ cond (ltb e₁ len) l [])) (parts-on space line (e₁ + 1))
-      ∙ ap (λ (l : List (List ℕ)). writeIn n (wordAt line from ∷ cond (ltb e₁ len) (wordAt line (e₁ + 1) ∷ cond (ltb e₂ len) l []) [])) (parts-on space line (e₂ + 1))
+      by-three line from (writeIn n)
       ∙ ap (λ (l : List (List ℕ)). writeIn n (wordAt line from ∷ cond (ltb e₁ len) (wordAt line (e₁ + 1) ∷ cond (ltb e₂ len) (wordAt line (e₂ + 1) ∷ cond (ltb e₃ len) l []) []) [])) (parts-on space line (e₃ + 1))
       ∙ writes-by-words n (wordAt line from) (wordAt line (e₁ + 1)) (wordAt line (e₂ + 1)) _ _ (ltb e₁ len) (ltb e₂ len) (ltb e₃ len)
       ∙ writes-by-numbers (ltb e₁ len && ltb e₂ len && not (ltb e₃ len)) (isNumber (wordAt line from)) (isNumber (wordAt line (e₁ + 1))) (isContent (wordAt line (e₂ + 1))) n (value (wordAt line from)) (value (wordAt line (e₁ + 1))) (contentIn (wordAt line (e₂ + 1)))
