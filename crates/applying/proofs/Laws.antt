@@ -152,7 +152,7 @@ module _ (causal : Bool) (pkind s : List ℕ) (count : ℕ) (kind₀ : List ℕ)
       pub gone-fits : (on : Bool) (one : ℕ) → one ≡ cond on 1 0 → Fits w8 count → Fits w8 (went + one)
       gone-fits on one n fits = record { fits = omega (arith, so .few, n, at-most-one on) }
 
-      pub gone-turned : 6 * count ≤ length s
+      pub gone-turned : 6 * count + 12 ≤ length s
           → (e : Entry) → e ≡ entryAt s i
           → (on : Bool) → on ≡ goes causal pkind e
           → (d : ℤ) → d ≡ toZ w32 (e .day) → SFits w32 d
@@ -162,7 +162,7 @@ module _ (causal : Bool) (pkind s : List ℕ) (count : ℕ) (kind₀ : List ℕ)
           → GoneSoFar causal pkind s count kind₀ day₀ kind′ day′ (went + one) (i + 1)
       unfolding laid wentOf
       gone-turned room e is on test d signed fits kind′ k day′ y one n =
-          let stands : entryAt s i ≡ entryOf (drop (6 * i) s) = rw (le-leb (6 * i + 6) (length s) (omega arith)) in
+          let stands : entryAt s i ≡ entryOf (drop (6 * i) s) = rw (le-leb (6 * i + 18) (length s) (omega arith)) in
           let step : rest s count i ≡ e ∷ rest s count (i + 1) =
           rest-step s count i h ∙ ap (λ (x : Entry). x ∷ rest s count (i + 1)) (sym (is ∙ stands))
           in
@@ -187,19 +187,19 @@ module _ (causal : Bool) (pkind s : List ℕ) (count : ℕ) (kind₀ : List ℕ)
                 ∙ ap (λ (l : List ℤ). laid on-shelf dayOn l (rest s count (i + 1))) (sym y);
           }
 
-    pub gone-ended : 6 * count ≤ length s → count ≤ i → Applies causal pkind (entriesIn s count) kind₀ day₀ went kind day
+    pub gone-ended : 6 * count + 12 ≤ length s → count ≤ i → Applies causal pkind (entriesIn s count) kind₀ day₀ went kind day
     unfolding laid wentOf
     gone-ended room h =
         let none : count - i ≡ 0 = omega arith in
-        rw (le-leb (6 * count) (length s) room)
+        rw (le-leb (6 * count + 12) (length s) room)
         (record {
           went = sym (so .found ∙ rw none (omega arith));
           kinds = sym (so .kinds ∙ rw none);
           days = sym (so .days ∙ rw none);
         })
 
-  pub gone-none : length s < 6 * count → Applies causal pkind (entriesIn s count) kind₀ day₀ 0 kind₀ day₀
+  pub gone-none : length s < 6 * count + 12 → Applies causal pkind (entriesIn s count) kind₀ day₀ 0 kind₀ day₀
   unfolding laid wentOf
-  gone-none h = rw (lt-leb (6 * count) (length s) h) (record { went = refl; kinds = refl; days = refl })
+  gone-none h = rw (lt-leb (6 * count + 12) (length s) h) (record { went = refl; kinds = refl; days = refl })
 
 pub ruleset applyings = (gone-begun, gone-fits, gone-turned, gone-ended, gone-none)

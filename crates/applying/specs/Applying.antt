@@ -14,7 +14,8 @@ use Rattle.cells.specs.Cells.{blank, putIf}
 use Rattle.layout.specs.declared.Entry.{Entry}
 use Rattle.layout.specs.Layout.{entriesOf}
 
--- "in causal mode always, in the other modes only if that cell is not pending"
+-- "in causal mode always, in the other modes only if that cell is not pending". (An entry of a cell from 64 up, which no good sheet has, counts
+-- as gone and puts nothing.)
 abbrev pub goes : Bool → List ℕ → Entry → Bool
 goes causal pkind e = causal || blank pkind (e .cell)
 
@@ -35,9 +36,9 @@ unfoldable pub wentOf : (Entry → Bool) → List Entry → ℕ
 wentOf going [] = 0
 wentOf going (e ∷ es) = cond (going e) 1 0 + wentOf going es
 
--- the first n entries that bytes begin with; none where the bytes end before they do
+-- the first n entries that bytes begin with; none where the bytes end before they do, and a trailer of 12 bytes behind them
 abbrev pub entriesIn : List ℕ → ℕ → List Entry
-entriesIn s n = cond (leb (6 * n) (length s)) (entriesOf n s) []
+entriesIn s n = cond (leb (6 * n + 12) (length s)) (entriesOf n s) []
 
 -- a call that found a shelf of `kind` and `day`, left it as `kind′` and `day′`, and answered r
 pub record Applies (causal : Bool) (pkind : List ℕ) (es : List Entry) (kind : List ℕ) (day : List ℤ) (r : ℕ) (kind′ : List ℕ) (day′ : List ℤ) : Type 0 where

@@ -15,7 +15,7 @@ fn entry_goes(causal: bool, pkind: &[u8; 64], e: Entry) -> bool
 }
 
 // Puts the first `count` entries of a sheet on the shelf, each that goes there, and counts these.
-// Where the bytes end before so many entries do, nothing is put.
+// Where the bytes end before so many entries and a trailer do, nothing is put.
 pub fn apply(
     causal: bool,
     kind: &mut [u8; 64],
@@ -27,7 +27,7 @@ pub fn apply(
     ensures { λ r. ⌜ Applies causal (now (pkind .entry)) (entriesIn (now (s .entry)) count) (now (kind .entry)) (now (day .entry)) r (now (kind .exit)) (now (day .exit)) ⌝ }
 {
     let mut went: u8 = 0;
-    if s.len() < 6 * (count as usize) {
+    if s.len() < 6 * (count as usize) + 12 {
         return went;
     }
     let mut i: u8 = 0;

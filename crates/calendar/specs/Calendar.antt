@@ -66,6 +66,8 @@ dayNumberOf t = answer (22 if not (isDate t) ∷ []) (numberOf t)
 
 -- ---- a day's date
 
+-- How it is found need not be believed: `DaysComeBack` and `DatesComeBack` (specs/Promises.antt) say that it is the one date with the day's number.
+
 -- of the day that lies i days after 1 January 1901: its year, counted from 1901 and up to 2199, is the last that begins no later
 abbrev pub yearAt : ℕ → ℕ
 yearAt i = spanOf yearLength (2199 - 1901) i

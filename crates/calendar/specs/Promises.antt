@@ -41,7 +41,7 @@ NextDates = (t : Date) → isDate t ≡ true → (t ≡ lastDate → ⊥) → Ne
 abbrev pub NextDays : Type 0
 NextDays = (z : ℤ) (t : Date) → dateOf z ≡ answered t → isDay (sucℤ z) ≡ true → dateOf (sucℤ z) ≡ answered (nextDate t)
 
--- the calendar's two ends and what lies past them, day 0, and the day before it
+-- the calendar's two ends and what lies past them, a February of 28 days, day 0, and the day before it
 pub record Ends : Type 0 where
   pub first : dayNumberOf (record { year = 1901; month = 1; day = 1 }) ≡ answered (negsuc 25201)
   pub last : dayNumberOf lastDate ≡ answered (pos 84006)

@@ -54,7 +54,7 @@ pub record PastAfter (d today : ℤ) : Type 0 where
 abbrev pub PastExactlyAfter : Type 0
 PastExactlyAfter = (d today : ℤ) → PastAfter d today
 
--- a blank is neither cleared nor past, on no day; open is cleared on every day
+-- a blank is neither cleared nor past, on any day; open is cleared on every day
 pub record NoDay (today : ℤ) : Type 0 where
   pub blank-not-cleared : cleared (standingOn Blank today) ≡ false
   pub blank-not-past : past (standingOn Blank today) ≡ false

@@ -1,6 +1,6 @@
 // The examples of document 01, run by the code and printed; the file stdout beside src/ is what they
 // must print. Those marked (P) are proved of the definitions too, all by one statement:
-// specs/Examples.antt.
+// crates/edges.
 use calendar::Date;
 use calendar::DateAnswer;
 use calendar::DayAnswer;

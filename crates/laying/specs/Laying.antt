@@ -1,4 +1,4 @@
--- Bytes laid over others, from a place on: what every write to a lent buffer comes to. "Bytes past it stay", and so do those before it.
+-- Bytes laid over others, from a place on: what every write to a lent buffer comes to: "bytes past it stay", and so do those before it.
 -- Assumes nothing.
 use Prim.Native.Nat.{ℕ, _+_}
 use mathlib.Core.Bool.{cond}

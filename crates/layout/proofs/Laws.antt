@@ -3,8 +3,7 @@
 --   entries-length, sheet-length       how long entries and a sheet are
 --   entries-back, trailer-back         what was written as bytes is what the bytes hold
 --   sheet-again                        bytes that hold as many entries as they say are the sheet of what they hold
---   content-in-entry                   an entry gives back the content it was made of
---   contents-apart : ContentsApart, open-meets-no-day : OpenMeetsNoDay (specs/Promises.antt)
+--   contents-apart : ContentsApart, content-in-entry : ContentInEntry, open-meets-no-day : OpenMeetsNoDay (specs/Promises.antt)
 -- Assumes nothing.
 use mathlib.Core.Path.{_≡_, refl, sym, ap, _∙_}
 use mathlib.Core.List.{List, [], _∷_, _++_}
@@ -23,7 +22,7 @@ use Rattle.content.specs.Content.{dayOf}
 use Rattle.content.proofs.Laws.Content.{content-again}
 use Rattle.layout.specs.declared.Entry.{Entry}
 use Rattle.layout.specs.declared.Trailer.{Trailer}
-use Rattle.layout.specs.Promises.{ContentsApart, OpenMeetsNoDay}
+use Rattle.layout.specs.Promises.{ContentsApart, ContentInEntry, OpenMeetsNoDay}
 use Rattle.layout.specs.Values.{AreBytes, DaysFit, no-days, a-day}
 use Rattle.layout.specs.Layout.{entryBytes, entriesBytes, trailerBytes, sheetBytes, entryOf, entriesOf, trailerOf, trailerIn, entryFor, contentIn}
 use Rattle.layout.proofs.Bytes.{back-bytes}
@@ -121,7 +120,7 @@ sheet-again s n b long =
 
 -- ---- contents
 
-pub content-in-entry : (cell : ℕ) (c : Content) → SFits w32 (dayOf c) → contentIn (entryFor cell c) ≡ c
+pub content-in-entry : ContentInEntry
 content-in-entry cell c h = rw (toZ-ofZ h) (content-again c)
 
 -- ---- "empty is not zero and not yesterday", on the line

@@ -31,7 +31,7 @@ abbrev pub trailerBytes : Trailer → List ℕ
 trailerBytes t =
     bytes 2 (t .distance) ++ (t .entries ∷ t .sender ∷ t .desks ∷ t .cells ∷ t .zero6 ∷ t .zero7 ∷ []) ++ bytes 4 (t .turn)
 
--- "First the entries", "then the trailer"
+-- "First the entries", "Then the trailer"
 abbrev pub sheetBytes : List Entry → Trailer → List ℕ
 sheetBytes es t = entriesBytes es ++ trailerBytes t
 
@@ -72,7 +72,7 @@ entryFor cell c = record { cell = cell; kind = kindOf c; day = ofZ w32 (dayOf c)
 abbrev pub contentIn : Entry → Content
 contentIn e = contentOf (e .kind) (toZ w32 (e .day))
 
--- the numbers that a trailer carries, and the trailer that carries them: the distance is 6 × entries
+-- the numbers that a trailer carries, and the trailer that carries them: the distance is 6 × entries, and the two zero bytes are zero
 abbrev pub numbersOf : Trailer → Numbers
 numbersOf t =
     record { entries = t .entries; sender = t .sender; desks = t .desks; cells = t .cells; turn = t .turn }

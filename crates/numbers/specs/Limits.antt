@@ -1,4 +1,4 @@
--- 01's table of limits, "least" and "most": from 1 desk to 16, from 1 cell to 64.
+-- 01's table of limits, "least" and "most".
 -- Assumes nothing.
 use Prim.Native.Nat.{ℕ}
 use mathlib.Core.Bool.{Bool, _&&_}
@@ -6,3 +6,11 @@ use lib.Dec.{leb}
 
 abbrev pub within : ℕ → ℕ → ℕ → Bool
 within least most n = leb least n && leb n most
+
+-- "desks n", from 1 to 16
+abbrev pub desksWithin : ℕ → Bool
+desksWithin n = within 1 16 n
+
+-- "cells m", from 1 to 64
+abbrev pub cellsWithin : ℕ → Bool
+cellsWithin m = within 1 64 m

@@ -1,4 +1,4 @@
-// Numbers as bytes. 01, "A sheet and its trailer": "All numbers low byte first", and a day is
+// Numbers as bytes, and two leaves that others need, `magnitude` and `left_by`. 01, "A sheet and its trailer": "All numbers low byte first", and a day is
 // "4, two's complement". Whoever reads or writes a sheet, a tray or a record's bytes goes by this
 // crate, and a day's two's complement pattern is met nowhere else than in `signed` and `pattern`.
 //

@@ -7,7 +7,7 @@ use mathlib.Core.Bool.{Bool, true, _&&_, _||_}
 use mathlib.Core.List.{List, [], _∷_}
 use lib.Dec.{eqb, leb, ltb}
 use lib.ListN.{length}
-use Rattle.numbers.specs.Limits.{within}
+use Rattle.numbers.specs.Limits.{desksWithin, cellsWithin}
 use Rattle.layout.specs.declared.Entry.{Entry}
 use Rattle.layout.specs.Layout.{entriesOf, trailerIn}
 
@@ -34,7 +34,7 @@ below cells e = ltb (e .cell) cells
 abbrev pub kindAndDay : Entry → Bool
 kindAndDay e = (eqb (e .kind) 1 && eqb (e .day) 0) || eqb (e .kind) 2
 
--- 01's table: a sheet has 12 bytes at least. (That it has 396 at most follows: `good-within` in proofs/Laws/Good.antt.) Then the
+-- 01's table: a sheet has 12 bytes at least. (That it has 396 at most follows: `GoodWithin`, specs/Promises.antt.) Then the
 -- clauses of "A sheet is good if", one to a line
 unfoldable pub good : List ℕ → Bool
 good s =
@@ -42,7 +42,7 @@ good s =
     let es = entriesOf (t .entries) s in
     leb 12 (length s)
     && (eqb (t .distance) (6 * t .entries) && eqb (t .distance) (length s - 12))
-    && (within 1 16 (t .desks) && within 1 64 (t .cells))
+    && (desksWithin (t .desks) && cellsWithin (t .cells))
     && ltb (t .sender) (t .desks)
     && (rising es && every (below (t .cells)) es)
     && (every kindAndDay es && (eqb (t .zero6) 0 && eqb (t .zero7) 0))

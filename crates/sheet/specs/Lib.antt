@@ -1,4 +1,4 @@
 pub mod Good
-pub mod Parts
+pub mod Clauses
 pub mod Reading
 pub mod Promises

@@ -1,8 +1,9 @@
 -- What is promised of sheets beside the calls' contracts. proofs/Laws proves each.
 -- Assumes nothing.
 use mathlib.Core.Path.{_≡_}
+use mathlib.Core.Bool.{true}
 use mathlib.Core.List.{List}
-use Prim.Native.Nat.{ℕ, _<_}
+use Prim.Native.Nat.{ℕ, _<_, _≤_}
 use lib.ListN.{length, getD}
 use mir.Syntax.{w32}
 use mir.Val.{toZ}
@@ -11,6 +12,7 @@ use Rattle.content.specs.declared.Content.the-variants.{Open, Day}
 use Rattle.layout.specs.declared.Entry.{Entry}
 use Rattle.sheet.specs.declared.Reading.{Reading}
 use Rattle.layout.specs.Layout.{contentIn}
+use Rattle.sheet.specs.Good.{good}
 use Rattle.sheet.specs.Reading.{Sheet, readOf, saidRead, noEntry, entryAt}
 
 -- ---- a good sheet gives its entries, where they stand
@@ -32,6 +34,10 @@ pub record EntriesStand (s : List ℕ) (sheet : Sheet) : Type 0 where
 
 abbrev pub EntriesInPlace : Type 0
 EntriesInPlace = (s : List ℕ) (sheet : Sheet) → readOf s ≡ answered sheet → EntriesStand s sheet
+
+-- 01's table: "sheet, bytes" from 12 to 396
+abbrev pub GoodWithin : Type 0
+GoodWithin = (s : List ℕ) → good s ≡ true → (12 ≤ length s) × (length s ≤ 396)
 
 -- two different answers never say the same of the same bytes
 abbrev pub ReadingsApart : Type 0

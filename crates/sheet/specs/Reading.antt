@@ -31,9 +31,10 @@ abbrev pub saidRead : List ℕ → Reading → Answer Sheet
 saidRead s (read.Good n) = answered (sheetIn s n)
 saidRead s (read.Refused k) = refused k
 
--- entry k where it stands; an entry of zeros, which is of no kind, where the bytes end before it does
+-- entry k where it stands, before a trailer of 12 bytes; an entry of zeros, which is of no kind, where there is none: so a sheet has
+-- nothing behind its entries, and its trailer is never read as one
 abbrev pub noEntry : Entry
 noEntry = record { cell = 0; kind = 0; day = 0 }
 
 abbrev pub entryAt : List ℕ → ℕ → Entry
-entryAt s k = cond (leb (6 * k + 6) (length s)) (entryOf (drop (6 * k) s)) noEntry
+entryAt s k = cond (leb (6 * k + 18) (length s)) (entryOf (drop (6 * k) s)) noEntry

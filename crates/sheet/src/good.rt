@@ -3,7 +3,7 @@ ghost use mathlib.Core.Path.{_≡_};
 ghost use Prim.Native.Nat.{_*_, _≤_};
 ghost use lib.ListN.{length};
 ghost use Rattle.layout.specs.Layout.{entriesOf};
-ghost use Rattle.sheet.specs.Parts.{goodTrailer, goodEntry, goodEntries};
+ghost use Rattle.sheet.specs.Clauses.{goodTrailer, goodEntry, goodEntries};
 use crate::bytes;
 use layout::Entry;
 use layout::Trailer;
@@ -19,7 +19,8 @@ pub fn good_trailer(t: Trailer, back: usize) -> bool
         & ((t.turn <= 4294967294) & (numbers::left_by(t.turn, t.desks) == (t.sender as u32)))
 }
 
-// An entry behind those of the cells below `least`, in a sheet of so many cells.
+// An entry of a sheet with so many cells, whose cell is to be `least` or above: 0 for the first entry,
+// else one more than the cell before.
 pub fn good_entry(cells: u8, least: u16, e: Entry) -> bool
     ensures { λ r. ⌜ r ≡ goodEntry cells least e ⌝ }
 {

@@ -38,12 +38,13 @@ pub fn read(s: &[u8]) -> Reading
     Reading::Good(t.numbers())
 }
 
-// Entry k of a sheet, counted from 0, where it stands; zeros where the slice ends before it does.
+// Entry k of a sheet, counted from 0, where it stands; zeros, which are of no kind, where the sheet has
+// no entry k: the trailer, its last 12 bytes, is never read as an entry.
 pub fn entry_at(s: &[u8], k: u8) -> Entry
     ensures { λ r. ⌜ r ≡ entryAt (now (s .entry)) k ⌝ }
 {
     let at = 6 * (k as usize);
-    if s.len() < at + 6 {
+    if s.len() < at + 18 {
         return Entry {
             cell: 0,
             kind: 0,

@@ -9,7 +9,7 @@ use mathlib.Core.Bool.{Bool, false, not, _&&_, _||_}
 use mathlib.Core.List.{List}
 use lib.Dec.{eqb, leb, ltb}
 use lib.IntN.{ℤ, pos, negsuc}
-use Rattle.numbers.specs.Limits.{within}
+use Rattle.numbers.specs.Limits.{within, desksWithin, cellsWithin}
 use Rattle.cells.specs.Cells.{kindAt, dayAt, blank, filled, each, some}
 use Rattle.sound.specs.declared.Head.{Head}
 use Rattle.sound.specs.Head.{sequential, causal, ownTurn, readWaits, waitCell}
@@ -23,7 +23,7 @@ sameDay (negsuc a) (negsuc b) = eqb a b
 
 -- "n and m are within limits, own number below n, mode 1 to 3"
 abbrev pub limits : Head → Bool
-limits h = (within 1 16 (h .n) && within 1 64 (h .m)) && ltb (h .own) (h .n) && within 1 3 (h .mode)
+limits h = (desksWithin (h .n) && cellsWithin (h .m)) && ltb (h .own) (h .n) && within 1 3 (h .mode)
 
 -- a kind stands for a content: 0 blank, 1 open, 2 a day
 abbrev pub isKind : ℕ → Bool

@@ -6,7 +6,7 @@ use mathlib.Core.Bool.{Bool}
 use mathlib.Core.List.{List}
 use Prim.Native.Nat.{ℕ}
 use Rattle.layout.specs.declared.Entry.{Entry}
-use Rattle.sheet.specs.Parts.{goodEntries}
+use Rattle.sheet.specs.Clauses.{goodEntries}
 use Rattle.layout.specs.Values.{DaysFit}
 
 pub record Tested (cells : ℕ) (es : List Entry) (r : Bool) : Type 0 where

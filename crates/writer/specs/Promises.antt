@@ -1,12 +1,12 @@
 -- Demand 2: "a written sheet reads back as the entries sent, and a good sheet's entries and trailer numbers write the same bytes again."
--- Both as statements over the definitions of reading and writing, proved in proofs/RoundTrip.antt; and that no two answers say the same,
--- proved in proofs/Laws/Writing.antt.
+-- Both as statements over the definitions of reading and writing, proved in proofs/RoundTrip.antt; and that a refused writing changes nothing,
+-- and no two answers say the same, proved in proofs/Laws/Writing.antt.
 -- Assumes nothing.
 use mathlib.Core.Path.{_≡_}
 use mathlib.Core.List.{List, _++_}
 use Prim.Native.Nat.{ℕ, _≤_}
 use lib.ListN.{length, take, drop}
-use Rattle.answer.specs.Answer.{answered}
+use Rattle.answer.specs.Answer.{refused, answered}
 use Rattle.layout.specs.declared.Entry.{Entry}
 use Rattle.layout.specs.declared.Numbers.{Numbers}
 use Rattle.sheet.specs.Reading.{Sheet, readOf}
@@ -28,6 +28,10 @@ ReadWritesBack =
     (s : List ℕ) (sheet : Sheet) (more : List Entry) (buf : List ℕ) → AreBytes s → readOf s ≡ answered sheet → length s ≤ length buf
     → (writtenOf (sheet .numbers) (sheet .entries ++ more) buf ≡ answered (length s))
     × (bufferOf (sheet .numbers) (sheet .entries ++ more) buf ≡ s ++ drop (length s) buf)
+
+-- demand 1: "a refused call changes no record and no lent byte"
+unfoldable pub RefusedWritesNothing : Type 0
+RefusedWritesNothing = (n : Numbers) (es : List Entry) (buf : List ℕ) (k : ℕ) → writtenOf n es buf ≡ refused k → bufferOf n es buf ≡ buf
 
 -- two different answers never say the same
 abbrev pub WritingsApart : Type 0

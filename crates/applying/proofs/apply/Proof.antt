@@ -15,6 +15,9 @@ abbrev μ-loop : tie.MeasureT-loop
 mul-if1 : tie.Need-mul-if1 Inv-loop μ-loop
 mul-if1 c = search needs
 
+add-if1 : tie.Need-add-if1 Inv-loop μ-loop
+add-if1 c = search needs
+
 returns : tie.Need-returns Inv-loop μ-loop
 returns c = search (applyings, needs)
 
@@ -66,7 +69,7 @@ apply-spec =
     (tie.spec
     Inv-loop
     μ-loop
-    mul-if1
+    mul-if1 add-if1
     returns
     loop-holds
     entry-at-requires

@@ -68,7 +68,7 @@ taken-entries tray q e =
     let l = drop (start q + 2) tray in
     let room : lengthAt tray q ≤ length l = omega (arith, h .room, h .few, length-drop (start q + 2) tray) in
     let long : lengthAt tray q ≡ 6 * n + 12 = sym (length-take-le (lengthAt tray q) l room) ∙ good-length (sheetAt tray q) (h .sheet-good) in
-    rw (le-leb (6 * n) (length l) (omega arith)) (sym (entries-there (lengthAt tray q) l n (omega arith)))
+    rw (le-leb (6 * n + 12) (length l) (omega arith)) (sym (entries-there (lengthAt tray q) l n (omega arith)))
 
 -- ---- a look, as rules
 

@@ -26,7 +26,7 @@ use Rattle.layout.specs.Layout.{trailerBytes, numbersOf, trailerFor}
 use Rattle.layout.specs.Values.{DaysFit, no-days, a-day}
 use Rattle.layout.proofs.Laws.{TrailerFits, entries-back, trailer-back}
 use Rattle.sheet.specs.Good.{every, rising, below, kindAndDay, good}
-use Rattle.sheet.specs.Parts.{goodTrailer, goodEntries}
+use Rattle.sheet.specs.Clauses.{goodTrailer, goodEntries}
 use Rattle.sheet.specs.Reading.{sheetIn, readOf}
 use Rattle.sheet.proofs.Laws.Bools.{and-split}
 use Rattle.sheet.proofs.Laws.Good.{sheet-good}

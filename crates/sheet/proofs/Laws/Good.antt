@@ -25,12 +25,13 @@ use Rattle.content.specs.Content.{contentOf}
 use Rattle.layout.specs.declared.Entry.{Entry}
 use Rattle.layout.specs.declared.Trailer.{Trailer}
 use Rattle.layout.specs.Layout.{trailerBytes, sheetBytes, entryOf, entriesOf, trailerIn, entryFor}
-use Rattle.numbers.specs.Limits.{within}
+use Rattle.numbers.specs.Limits.{within, desksWithin, cellsWithin}
 use Rattle.sheet.specs.Good.{every, nextAbove, rising, below, kindAndDay, good}
 use Rattle.sheet.specs.Promises.{OpenOrDay, is-open, is-day}
 use Rattle.layout.specs.Values.{DaysFit}
 use Rattle.sheet.specs.Reading.{noEntry}
-use Rattle.sheet.specs.Parts.{goodTrailer, goodEntry, goodEntries}
+use Rattle.sheet.specs.Promises.{GoodWithin}
+use Rattle.sheet.specs.Clauses.{goodTrailer, goodEntry, goodEntries}
 use Rattle.sheet.proofs.Laws.Bools.{and-split, in-any-order}
 use Rattle.layout.proofs.Laws.{entry-of-entries, entries-count, sheet-length, TrailerFits, entries-back, trailer-back}
 
@@ -111,7 +112,7 @@ module _ (s : List ℕ) (long : 12 ≤ length s) where
       let t = trailerIn s in
       let es = entriesOf (t .entries) s in
       rw (le-leb 12 (length s) long)
-      (trailer-then-entries (eqb (t .distance) (6 * t .entries) && eqb (t .distance) (length s - 12)) (within 1 16 (t .desks) && within 1 64 (t .cells)) (ltb (t .sender) (t .desks)) (rising es) (every (below (t .cells)) es) (every kindAndDay es) (eqb (t .zero6) 0 && eqb (t .zero7) 0) (leb (t .turn) 4294967294 && eqb (t .turn % t .desks) (t .sender)))
+      (trailer-then-entries (eqb (t .distance) (6 * t .entries) && eqb (t .distance) (length s - 12)) (desksWithin (t .desks) && cellsWithin (t .cells)) (ltb (t .sender) (t .desks)) (rising es) (every (below (t .cells)) es) (every kindAndDay es) (eqb (t .zero6) 0 && eqb (t .zero7) 0) (leb (t .turn) 4294967294 && eqb (t .turn % t .desks) (t .sender)))
 
 -- a slice of fewer than 12 bytes has no trailer
 pub too-short-is-bad : (s : List ℕ) → length s < 12 → good s ≡ false
@@ -199,7 +200,7 @@ few-entries cells es g =
     omega (arith, from-few cells 0 es (from-is cells 0 es ∙ rw (none-below es) g))
 
 -- 01's table: a sheet has from 12 bytes to 396
-pub good-within : (s : List ℕ) → good s ≡ true → (12 ≤ length s) × (length s ≤ 396)
+pub good-within : GoodWithin
 good-within s g =
     let f = good-trailer-is-fair s g in
     let few = few-entries (trailerIn s .cells) (entriesOf (trailerIn s .entries) s) (good-entries-are s g) in

@@ -21,7 +21,7 @@ use Rattle.sheet.specs.declared.Reading.{Reading}
 use Rattle.sheet.specs.declared.Reading.the-variants as reading
 use Rattle.layout.specs.Layout.{entriesOf, trailerIn, numbersOf}
 use Rattle.sheet.specs.Good.{every, nextAbove, rising, below, kindAndDay, good}
-use Rattle.sheet.specs.Parts.{goodTrailer, goodEntries}
+use Rattle.sheet.specs.Clauses.{goodTrailer, goodEntries}
 use Rattle.sheet.specs.Reading.{Sheet, sheetIn, readOf, saidRead, noEntry, entryAt}
 use Rattle.sheet.specs.Promises.{GoodEntry, EntriesStand, EntriesInPlace, ReadingsApart}
 use Rattle.sheet.proofs.Laws.Bools.{and-split}
@@ -85,7 +85,7 @@ saidRead-tells-apart s a b = apart (saidRead s) (again reading.Refused numbered)
 
 entry-in-place : (s : List ℕ) → good s ≡ true → (k : ℕ) → k < trailerIn s .entries → entryAt s k ≡ getD (entriesOf (trailerIn s .entries) s) k noEntry
 entry-in-place s g k h =
-    rw (le-leb (6 * k + 6) (length s) (omega (arith, good-length s g)))
+    rw (le-leb (6 * k + 18) (length s) (omega (arith, good-length s g)))
     (sym (entry-of-entries (trailerIn s .entries) k s noEntry h))
 
 -- a test of every entry, at one of them

@@ -12,7 +12,7 @@ use lib.ListN.{length, getD, take, drop, length-append}
 use lib.Seq.{getD-take, take-suc, length-take-le}
 use Rattle.layout.specs.declared.Entry.{Entry}
 use Rattle.layout.specs.Layout.{entryBytes, entriesBytes}
-use Rattle.sheet.specs.Parts.{goodEntry}
+use Rattle.sheet.specs.Clauses.{goodEntry}
 use Rattle.sheet.specs.Reading.{noEntry}
 use Rattle.layout.specs.Values.{DaysFit, no-days, a-day}
 use Rattle.layout.proofs.Laws.{entries-length, entries-append}

@@ -1,6 +1,6 @@
 -- Laws of `writtenOf`, `bufferOf` and `Writes` (specs/Writing.antt).
 --   writings                       a set for `search`: what `write` knows at each of its returns, and what it then leaves and answers
---   saidWritten-tells-apart : WritingsApart (specs/Promises.antt)
+--   refused-writes-nothing : RefusedWritesNothing, saidWritten-tells-apart : WritingsApart (specs/Promises.antt)
 -- Assumes nothing.
 use mathlib.Core.Path.{_≡_, refl, sym, ap, _∙_}
 use mathlib.Core.List.{List, _++_}
@@ -10,13 +10,13 @@ use native.Mathlib.Omega.{arith}
 use lib.ListN.{length, take, drop, length-take}
 use lib.Seq.{length-take-le}
 use borrow.Author.Tests.{lt-ltb, le-ltb, not-true, not-false}
-use Rattle.answer.proofs.Laws.{again, apart}
+use Rattle.answer.proofs.Laws.{again, apart, refused-changes-nothing}
 use Rattle.layout.specs.declared.Entry.{Entry}
 use Rattle.layout.specs.declared.Numbers.{Numbers}
 use Rattle.layout.specs.declared.Trailer.{Trailer}
 use Rattle.layout.specs.Layout.{entriesBytes, trailerBytes, trailerFor, sheetFor}
 use Rattle.sheet.specs.Good.{good}
-use Rattle.sheet.specs.Parts.{goodTrailer}
+use Rattle.sheet.specs.Clauses.{goodTrailer}
 use Rattle.layout.specs.Values.{NumbersFit}
 use Rattle.layout.proofs.Laws.{TrailerFits, entries-length, sheet-length}
 use Rattle.sheet.proofs.Laws.Good.{fair-trailer, sheet-bad, sheet-good}
@@ -24,8 +24,8 @@ use Rattle.writer.specs.declared.Written.{Written}
 use Rattle.writer.specs.declared.Written.the-variants as written
 use Rattle.laying.specs.Laying.{laidOver}
 use Rattle.writer.specs.Parts.{Tested}
-use Rattle.writer.specs.Promises.{WritingsApart}
-use Rattle.writer.specs.Writing.{writtenOf, bufferOf, saidWritten, Writes}
+use Rattle.writer.specs.Promises.{RefusedWritesNothing, WritingsApart}
+use Rattle.writer.specs.Writing.{writtenOf, bufferOf, writeRules, saidWritten, Writes}
 use Rattle.laying.proofs.Laws.{laid-next}
 
 -- ---- by the sheet alone
@@ -42,6 +42,11 @@ module _ (n : Numbers) (es : List Entry) (b : List ℕ) where
   pub written-whole : good (sheetFor n es) ≡ true → length (sheetFor n es) ≤ length b → Writes n es b (written.Sheet (length (sheetFor n es))) (sheetFor n es ++ drop (length (sheetFor n es)) b)
   unfolding writtenOf bufferOf
   written-whole g h = record { answers = rw (g, le-ltb _ _ h); buffer = rw (g, le-ltb _ _ h) }
+
+pub refused-writes-nothing : RefusedWritesNothing
+unfolding RefusedWritesNothing writtenOf bufferOf
+refused-writes-nothing n es buf k e =
+    refused-changes-nothing (List ℕ) ℕ (writeRules (sheetFor n es) buf) (length (sheetFor n es)) k buf (sheetFor n es ++ drop (length (sheetFor n es)) buf) e
 
 -- ---- as the code goes
 

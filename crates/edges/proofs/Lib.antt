@@ -1,2 +1,3 @@
 pub mod Examples
+pub mod AlwaysAndOnly
 pub mod WrongDesks

@@ -30,10 +30,10 @@ use Rattle.applying.proofs.Laws.{went-within}
 use Rattle.desk.specs.declared.Desk.{Desk}
 use Rattle.desk.specs.Answers.{Value, Done, opened, stored, holds, waits, sent, held, taken}
 use Rattle.desk.specs.Calls.{sound, lastTurn, nextHead, readEnds, entriesTaken, takenDesk, waitedFor, sentDesk, readRules, sendRules, takeRules, mustWait, openOf, writeOf, readOf, sendOf, deliverOf, takeOf}
-use Rattle.desk.proofs.Laws.Allowed.{desk-says, send-allows}
-use Rattle.examples.specs.Examples.{wrote, sends, delivers, takes, takesNine}
-use Rattle.examples.specs.Examples as desks
-use Rattle.examples.specs.WrongDesks.{Refuses, NotAllRefused, NotAllBlank, NotAllUnchanged, sheet0, sheet1, bothHeld, firstTake, secondTake, SecondTakeIsTrue, Counts, oneOfTwo, WrongDesksShutOut, shelfAfter, EmptySheetSent, ReadEnded, SlipsRuledOut}
+use Rattle.desk.proofs.Laws.Allowed.{desk-says, send-allows, take-allows}
+use Rattle.edges.specs.Examples.{wrote, sends, delivers, takes, takesNine}
+use Rattle.edges.specs.Examples as desks
+use Rattle.edges.specs.WrongDesks.{Refuses, NotAllRefused, NotAllBlank, NotAllUnchanged, sheet0, sheet1, bothHeld, firstTake, secondTake, SecondTakeIsTrue, Counts, oneOfTwo, WrongDesksShutOut, shelfAfter, EmptySheetSent, ReadEnded, SlipsRuledOut}
 
 -- ---- the runs, all by computing
 
@@ -174,7 +174,7 @@ module _ (d : Desk) (tray : List ℕ) (t n k : ℕ) (w : Option Content) (e : ta
   counts =
       let same = same-taken _ t _ n _ k _ w (taken-as-said .1) in
       record {
-        turn = same .0;
+        turn = same .0 ∙ sym (take-allows d tray (taken-as-said .0) .is-next .turn);
         entries = same .1 .0;
         applied = same .1 .1 .0;
         no-more = omega (arith, same .1 .0, same .1 .1 .0, went-within (goes (causal (d .head)) (d .pkind)) (entriesTaken d tray));
@@ -239,14 +239,14 @@ module _ (d : Desk) (buf : List ℕ) (s : sound d ≡ true) (own : ownTurn (d .h
       }
 
 -- what an answered read says
-waits-is-no-content : (c : Content) → waits ≡ holds c → ⊥
+pub waits-is-no-content : (c : Content) → waits ≡ holds c → ⊥
 waits-is-no-content c e = let n : _≡_ {A = ℕ} 0 1 = cc in omega arith
 
 same-content : (c c′ : Content) → holds c ≡ holds c′ → c ≡ c′
 same-content c c′ e = cc
 
 module _ (d : Desk) (i : ℕ) where
-  read-as-said : (v : Value) → readOf d i .answer ≡ answered v → cond (mustWait d i) waits (holds (contentAt (d .kind) (d .day) i)) ≡ v
+  pub read-as-said : (v : Value) → readOf d i .answer ≡ answered v → cond (mustWait d i) waits (holds (contentAt (d .kind) (d .day) i)) ≡ v
   unfolding readOf
   read-as-said v e = answered-only-if (readRules d i) _ v e .1
 

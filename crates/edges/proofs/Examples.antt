@@ -11,7 +11,7 @@ use Rattle.tray.specs.Tray.{holdsGood, heldIn, clearedIn}
 use Rattle.pending.specs.Pending.{pendingBelow, sheetOf}
 use Rattle.applying.specs.Applying.{laid, wentOf}
 use Rattle.desk.specs.Calls.{openOf, writeOf, mustWait, readOf, sendOf, deliverOf, takeOf}
-use Rattle.examples.specs.Examples.{opened, wrote, sends, delivers, takes, sentBy, cellAfter, takesNine, ofThree, deliveredAt4, cases, ExamplesHold}
+use Rattle.edges.specs.Examples.{opened, wrote, sends, delivers, takes, sentBy, cellAfter, takesNine, ofThree, deliveredAt4, cases, ExamplesHold}
 
 pub examples-hold : ExamplesHold
 unfolding cases opened wrote sends delivers takes sentBy cellAfter takesNine ofThree deliveredAt4

@@ -14,16 +14,17 @@ use lib.ListN.{length, drop, replicate}
 use Rattle.answer.specs.Answer.{refused, answered}
 use Rattle.content.specs.declared.Content.{Content}
 use Rattle.content.specs.declared.Content.the-variants.{Blank, Open, Day}
-use Rattle.layout.specs.Layout.{sheetBytes, trailerFor}
+use Rattle.layout.specs.Layout.{sheetBytes, trailerFor, trailerIn}
 use Rattle.cells.specs.Cells.{kindAt, contentAt, filled}
 use Rattle.cells.specs.Cells as cells
-use Rattle.sound.specs.Head.{causal, ownTurn, readWaits, waitCell}
+use Rattle.sound.specs.Head.{causal, turnDesk, ownTurn, readWaits, waitCell}
+use Rattle.tray.specs.Tray.{sheetAt}
 use Rattle.pending.specs.Pending.{numbersFor}
 use Rattle.applying.specs.Applying.{goes, wentOf}
 use Rattle.desk.specs.declared.Desk.{Desk}
 use Rattle.desk.specs.Answers.{Value, Done, holds, waits, sent, taken}
 use Rattle.desk.specs.Calls.{sound, lastTurn, nextHead, entriesTaken, openOf, writeOf, readOf, sendOf, deliverOf, takeOf}
-use Rattle.examples.specs.Examples.{opened, wrote, sends, takes, takesNine}
+use Rattle.edges.specs.Examples.{opened, wrote, sends, takes, takesNine}
 
 -- ---- "a desk that refuses everything"
 
@@ -95,7 +96,7 @@ pub record SecondTakeIsTrue : Type 0 where
 
 -- the numbers that an answered take gives are those of the sheet in the tray: its turn number, its entries, and those that went to the shelf
 pub record Counts (d : Desk) (tray : List ℕ) (t n k : ℕ) : Type 0 where
-  pub turn : t ≡ d .head .turn
+  pub turn : t ≡ trailerIn (sheetAt tray (turnDesk (d .head))) .turn
   pub entries : n ≡ length (entriesTaken d tray)
   pub applied : k ≡ wentOf (goes (causal (d .head)) (d .pkind)) (entriesTaken d tray)
   pub no-more : k ≤ n

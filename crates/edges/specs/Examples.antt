@@ -1,5 +1,6 @@
 -- 01, "Examples at the edges": "(P) marks those for the proved table": one list of cases and one statement over it, proved in
--- proofs/Examples.antt. Examples 1, 2, 4, 5 and 6 are made by a desk's calls (crates/desk/specs/Calls.antt), one after the other.
+-- proofs/Examples.antt. Examples 1, 2, 4 and 5 are made by a desk's calls (crates/desk/specs/Calls.antt), one after the other from open
+-- on; 6 by a send and a delivery, on records with the turn numbers that it names.
 -- Assumes nothing.
 use mathlib.Core.Path.{_≡_}
 use mathlib.Core.List.{List, [], _∷_, map}
@@ -13,10 +14,10 @@ use Rattle.content.specs.declared.Content.the-variants.{Blank, Day}
 use Rattle.content.specs.Standing.{Stands, unknown, left, standingOn}
 use Rattle.calendar.specs.declared.Date.{Date}
 use Rattle.calendar.specs.Calendar.{dayNumberOf}
-use Rattle.layout.specs.Layout.{entryFor, entryBytes}
+use Rattle.layout.specs.Layout.{entryFor, entryBytes, trailerIn}
 use Rattle.cells.specs.Cells.{contentAt}
 use Rattle.desk.specs.declared.Desk.{Desk}
-use Rattle.desk.specs.Answers.{Done, holds, sent, held, taken}
+use Rattle.desk.specs.Answers.{Done, holds, waits, sent, held, taken}
 use Rattle.desk.specs.Answers as desk
 use Rattle.desk.specs.Calls.{openOf, writeOf, readOf, sendOf, deliverOf, takeOf, blankDesk}
 
@@ -113,6 +114,8 @@ cases =
     ∷ record { example = 6; made = deliveredAt4 6; says = call (answered held) }
     ∷ record { example = 6; made = deliveredAt4 3; says = call (refused 16) }
     ∷ record { example = 6; made = deliveredAt4 9; says = call (refused 17) }
+    ∷ record { example = 6; made = deliveredAt4 0; says = call (refused 16) }
+    ∷ record { example = 6; made = deliveredAt4 12; says = call (refused 17) }
     -- "Standing of day 0 on day 0 is 0 left; on day 1 it is -1; of blank, unknown."
     ∷ record { example = 7; made = standing (standingOn (Day (pos 0)) (pos 0)); says = standing (left (pos 0)) }
     ∷ record { example = 7; made = standing (standingOn (Day (pos 0)) (pos 1)); says = standing (left (negsuc 0)) }
@@ -125,3 +128,9 @@ cases =
 -- the definitions make of every case what 01 says
 abbrev pub ExamplesHold : Type 0
 ExamplesHold = map (λ (c : Case). c .made) cases ≡ map (λ (c : Case). c .says) cases
+
+-- example 5's "always" and example 6's "only", which no list of cases can say: one desk's read never waits, whatever its record; and of all
+-- bytes that are held from desk 0, the turn number is 6
+pub record AlwaysAndOnly : Type 0 where
+  pub always : (d : Desk) (i : ℕ) → d .head .n ≡ 1 → readOf d i .answer ≡ answered waits → ⊥
+  pub only : (tray s : List ℕ) → trailerIn s .sender ≡ 0 → deliverOf (ofThree 1 4) tray s .answer ≡ answered held → trailerIn s .turn ≡ 6

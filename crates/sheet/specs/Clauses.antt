@@ -1,5 +1,5 @@
 -- The clauses of `good` by what they look at: what `good_trailer` and `good_entry` test, for whoever reads or writes a sheet part by part.
--- `good` is all of them together: that is proved (`good-is` in proofs/Laws/Good.antt), and nobody need believe it.
+-- `good` is all of them together (`good-is` in proofs/Laws/Good.antt): who reads or writes whole sheets need not believe this file.
 -- Assumes nothing.
 use Prim.Native.Nat.{ℕ, _*_, _%_}
 use mathlib.Core.Bool.{Bool, _&&_}
@@ -7,19 +7,19 @@ use mathlib.Core.List.{List}
 use lib.Dec.{eqb, leb, ltb}
 use Rattle.layout.specs.declared.Entry.{Entry}
 use Rattle.layout.specs.declared.Trailer.{Trailer}
-use Rattle.numbers.specs.Limits.{within}
+use Rattle.numbers.specs.Limits.{desksWithin, cellsWithin}
 use Rattle.sheet.specs.Good.{every, rising, below, kindAndDay}
 
 -- of a trailer that has so many bytes before it
 abbrev pub goodTrailer : Trailer → ℕ → Bool
 goodTrailer t back =
     (eqb (t .distance) (6 * t .entries) && eqb (t .distance) back)
-    && (within 1 16 (t .desks) && within 1 64 (t .cells))
+    && (desksWithin (t .desks) && cellsWithin (t .cells))
     && ltb (t .sender) (t .desks)
     && (eqb (t .zero6) 0 && eqb (t .zero7) 0)
     && (leb (t .turn) 4294967294 && eqb (t .turn % t .desks) (t .sender))
 
--- of one entry that comes after those below `least`
+-- of an entry in a sheet of so many cells, whose cell is to be `least` or above: 0 for the first entry, else one more than the cell before
 abbrev pub goodEntry : ℕ → ℕ → Entry → Bool
 goodEntry cells least e = leb least (e .cell) && below cells e && kindAndDay e
 

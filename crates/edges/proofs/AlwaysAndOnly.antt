@@ -1,0 +1,53 @@
+-- Example 5's "always" and example 6's "only": by the rules of a read that is answered, and of a delivery that is.
+-- Assumes nothing.
+use mathlib.Core.Path.{_≡_, refl, sym, _∙_}
+use mathlib.Core.Bool.{Bool, true, false, _&&_, not, false≢true}
+use mathlib.Core.List.{List}
+use Prim.Native.Nat.{ℕ, _%_, _≤_, _<_}
+use native.Mathlib.Omega.{arith}
+use native.Mathlib.Nat.{mod-lt}
+use borrow.Author.Tests.{eq-eqb}
+use Rattle.answer.specs.Answer.{answered}
+use Rattle.answer.proofs.Laws.{answered-only-if}
+use Rattle.layout.specs.Layout.{trailerIn}
+use Rattle.sheet.proofs.Laws.Good.{good-trailer-is-fair}
+use Rattle.cells.specs.Cells.{blank, filled}
+use Rattle.cells.specs.Cells as cells
+use Rattle.sound.specs.Head.{sequential, ownTurn}
+use Rattle.desk.specs.declared.Desk.{Desk}
+use Rattle.desk.specs.Answers.{waits, held}
+use Rattle.desk.specs.Calls.{readRules, mustWait, readOf, deliverRules, deliverOf}
+use Rattle.desk.proofs.Laws.Allowed.{desk-says, read-allows, deliver-allows}
+use Rattle.edges.specs.Examples.{ofThree, AlwaysAndOnly}
+use Rattle.edges.proofs.WrongDesks.{read-as-said, waits-is-no-content}
+
+-- on its own turn a desk's read is answered at once
+own-turn-answers : (d : Desk) (i : ℕ) → ownTurn (d .head) ≡ true → mustWait d i ≡ false
+unfolding mustWait
+own-turn-answers d i own = rw own (ends-shut (sequential (d .head) && cells.some 64 (filled (d .pkind)) && blank (d .pkind) i))
+  where
+    ends-shut : (a : Bool) → a && false ≡ false
+    ends-shut true = refl
+    ends-shut false = refl
+
+always : (d : Desk) (i : ℕ) → d .head .n ≡ 1 → readOf d i .answer ≡ answered waits → ⊥
+unfolding readOf
+always d i one e =
+    let allowed = read-allows d i (answered-only-if (readRules d i) _ waits e .0) in
+    let low : d .head .own < d .head .n = desk-says d (allowed .is-sound) .own-below in
+    let turn : d .head .turn % d .head .n < d .head .n = mod-lt (d .head .turn) (omega arith) in
+    let own : ownTurn (d .head) ≡ true = eq-eqb (d .head .turn % d .head .n) (d .head .own) (omega arith) in
+    waits-is-no-content _ (sym (rw (own-turn-answers d i own) at (read-as-said d i waits e)))
+
+only : (tray s : List ℕ) → trailerIn s .sender ≡ 0 → deliverOf (ofThree 1 4) tray s .answer ≡ answered held → trailerIn s .turn ≡ 6
+unfolding deliverOf ofThree
+only tray s zero e =
+    let allowed = deliver-allows (ofThree 1 4) tray s (answered-only-if (deliverRules (ofThree 1 4) tray s) _ held e .0) in
+    let fair = good-trailer-is-fair s (allowed .sheet-good) in
+    let three : trailerIn s .turn % 3 ≡ 0 = rw (allowed .same-desks) at (fair .turn-leaves) ∙ zero in
+    let due : 4 ≤ trailerIn s .turn = allowed .due in
+    let near : trailerIn s .turn < 7 = allowed .near in
+    omega arith
+
+pub always-and-only : AlwaysAndOnly
+always-and-only = record { always = always; only = only }
