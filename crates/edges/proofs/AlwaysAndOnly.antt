@@ -30,24 +30,21 @@ own-turn-answers d i own = rw own (ends-shut (sequential (d .head) && cells.some
     ends-shut true = refl
     ends-shut false = refl
 
-always : (d : Desk) (i : ℕ) → d .head .n ≡ 1 → readOf d i .answer ≡ answered waits → ⊥
-unfolding readOf
-always d i one e =
-    let allowed = read-allows d i (answered-only-if (readRules d i) _ waits e .0) in
-    let low : d .head .own < d .head .n = desk-says d (allowed .is-sound) .own-below in
-    let turn : d .head .turn % d .head .n < d .head .n = mod-lt (d .head .turn) (omega arith) in
-    let own : ownTurn (d .head) ≡ true = eq-eqb (d .head .turn % d .head .n) (d .head .own) (omega arith) in
-    waits-is-no-content _ (sym (rw (own-turn-answers d i own) at (read-as-said d i waits e)))
-
-only : (tray s : List ℕ) → trailerIn s .sender ≡ 0 → deliverOf (ofThree 1 4) tray s .answer ≡ answered held → trailerIn s .turn ≡ 6
-unfolding deliverOf ofThree
-only tray s zero e =
-    let allowed = deliver-allows (ofThree 1 4) tray s (answered-only-if (deliverRules (ofThree 1 4) tray s) _ held e .0) in
-    let fair = good-trailer-is-fair s (allowed .sheet-good) in
-    let three : trailerIn s .turn % 3 ≡ 0 = rw (allowed .same-desks) at (fair .turn-leaves) ∙ zero in
-    let due : 4 ≤ trailerIn s .turn = allowed .due in
-    let near : trailerIn s .turn < 7 = allowed .near in
-    omega arith
-
 pub always-and-only : AlwaysAndOnly
-always-and-only = record { always = always; only = only }
+unfolding readOf deliverOf ofThree
+always-and-only =
+    record {
+      always = λ d i one e.
+          let allowed = read-allows d i (answered-only-if (readRules d i) _ waits e .0) in
+          let low : d .head .own < d .head .n = desk-says d (allowed .is-sound) .own-below in
+          let turn : d .head .turn % d .head .n < d .head .n = mod-lt (d .head .turn) (omega arith) in
+          let own : ownTurn (d .head) ≡ true = eq-eqb (d .head .turn % d .head .n) (d .head .own) (omega arith) in
+          waits-is-no-content _ (sym (rw (own-turn-answers d i own) at (read-as-said d i waits e)));
+      only = λ tray s zero e.
+          let allowed = deliver-allows (ofThree 1 4) tray s (answered-only-if (deliverRules (ofThree 1 4) tray s) _ held e .0) in
+          let fair = good-trailer-is-fair s (allowed .sheet-good) in
+          let three : trailerIn s .turn % 3 ≡ 0 = rw (allowed .same-desks) at (fair .turn-leaves) ∙ zero in
+          let due : 4 ≤ trailerIn s .turn = allowed .due in
+          let near : trailerIn s .turn < 7 = allowed .near in
+          omega arith;
+    }
