@@ -2,12 +2,14 @@
 --   every-call-is-a-step : EveryCallIsAStep
 -- Assumes nothing.
 use Rattle.figure.specs.Promises.{EveryCallIsAStep}
-use Rattle.figure.proofs.Laws.Opens.{open-initializes, refused-is-no-step}
+use Rattle.keeping.proofs.Keeping.{numbers-stay}
+use Rattle.figure.proofs.Laws.Opens.{open-initializes}
 use Rattle.figure.proofs.Laws.Writes.{write-is-a-step}
 use Rattle.figure.proofs.Laws.Reads.{read-is-a-step}
 use Rattle.figure.proofs.Laws.Sends.{send-is-a-step}
 use Rattle.figure.proofs.Laws.Delivers.{deliver-is-an-arrival}
 use Rattle.figure.proofs.Laws.Takes.{take-is-a-step}
+use Rattle.figure.proofs.Laws.Ruled.{refused-is-no-step, answered-by-rules}
 
 pub every-call-is-a-step : EveryCallIsAStep
 every-call-is-a-step =
@@ -19,4 +21,6 @@ every-call-is-a-step =
       deliver-is-an-arrival = deliver-is-an-arrival;
       take-is-a-step = take-is-a-step;
       refused-is-no-step = refused-is-no-step;
+      answered-by-rules = answered-by-rules;
+      same-process = numbers-stay;
     }

@@ -6,3 +6,4 @@ pub mod Loops
 pub mod Takes
 pub mod Delivers
 pub mod Sends
+pub mod Ruled
