@@ -26,7 +26,7 @@ use Rattle.desk.specs.Answers.{Value, Done, opened, stored, holds, waits, sent,
 use Rattle.desk.specs.Calls.{blankDesk, freshHead, modeFor, openRules, openOf, writeRules, writeOf, mustWait, readRules, readOf, sendRules, sendOf, deliverRules, deliverOf, takeRules, entriesTaken, takenDesk, waitedFor, takeOf}
 use Rattle.desk.specs.Values.{DeskFits}
 use Rattle.keeping.specs.Promises.{NumbersStay}
-use Rattle.figure.specs.Figure1.{Process, Event, writes, reads, blocks, broadcasts, applies, initial, Step}
+use Rattle.figure.specs.Figure1.{Model, Updates, Process, Event, writes, reads, blocks, broadcasts, applies, initial, Loop, Step}
 use Rattle.figure.specs.Map.{modelOf, neverWritten, processOf, carried, received}
 
 -- a step of this desk's process, in its model
@@ -178,3 +178,16 @@ pub record EveryCallIsAStep : Type 0 where
   pub refused-is-no-step : RefusedIsNoStep
   pub answered-by-rules : AnsweredByRules
   pub same-process : NumbersStay
+
+-- 000 leaves open which pair a loop extracts next: "extract (x, v) from updates_q". It makes no difference: two loops over the same set, from the same
+-- copies, extract and assign equally many pairs and end with the same copies. So a step that applies a set settles the counts and the shelf. (A
+-- loop ends, so its set is finite; nothing need be said of that.)
+pub record SameEnd {A : Type 0} (extracted assigned : ℕ) (after : ℕ → A) (extracted′ assigned′ : ℕ) (after′ : ℕ → A) : Type 0 where
+  pub same-extracted : extracted ≡ extracted′
+  pub same-assigned : assigned ≡ assigned′
+  pub same-copies : after ≡ after′
+
+abbrev pub LoopsAgree : Type 1
+LoopsAgree =
+    (A : Type 0) (n p : ℕ) (model : Model) (own updates : Updates A) (copy : ℕ → A) (k j k′ j′ : ℕ) (after after′ : ℕ → A)
+    → Loop n p model own updates copy k j after → Loop n p model own updates copy k′ j′ after′ → SameEnd k j after k′ j′ after′
