@@ -36,7 +36,7 @@ StepOf d = Step (d .head .n) (d .head .own) (modelOf (d .head .mode))
 -- Each statement below begins with what the call answers: whatever value it is, it is the value of that call, and what it says is so.
 
 -- "Initialization", of process `own` of n, where nothing is in the tray; and 01: "All cells blank, nothing pending, turn number 0. Mode 0 means the
--- default: causal." Shut out: an open that begins at another turn number, or stores a mode that is none
+-- default: causal." Shut out: an open that begins at another turn number, or stores a number that is no mode
 pub record Opened (n m own mode : ℕ) (d : Desk) : Type 0 where
   pub process : (tray : List ℕ) → received tray ≡ (λ q. none) → processOf d tray ≡ initial neverWritten
   pub desks : d .head .n ≡ n
