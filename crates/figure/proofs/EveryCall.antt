@@ -1,6 +1,6 @@
 -- Demand 2 on a desk (specs/Promises.antt), proved: every call that is carried out is a step of Figure 1, and a refused call is none.
 --   every-call-is-a-step : EveryCallIsAStep
--- Beside it, `loops-agree : LoopsAgree` in proofs/Laws/Agree.antt.
+-- Beside it, `loops-agree : LoopsAgree` in proofs/Laws/Agree.antt and `record-settled : RecordSettled` in proofs/Laws/Settled.antt.
 -- Assumes nothing.
 use Rattle.figure.specs.Promises.{EveryCallIsAStep}
 use Rattle.keeping.proofs.Keeping.{numbers-stay}

@@ -8,3 +8,4 @@ pub mod Takes
 pub mod Delivers
 pub mod Sends
 pub mod Ruled
+pub mod Settled

@@ -18,14 +18,14 @@ use Rattle.layout.specs.Layout.{trailerIn, numbersOf}
 use Rattle.sheet.specs.Good.{good}
 use Rattle.cells.specs.Cells.{contentAt}
 use Rattle.sound.specs.Head.{causal, turnDesk}
-use Rattle.tray.specs.Tray.{sheetAt}
+use Rattle.tray.specs.Tray.{sheetAt, heldIn, clearedIn}
 use Rattle.pending.specs.Pending.{numbersFor, pendingEntries}
 use Rattle.applying.specs.Applying.{goes, wentOf}
 use Rattle.desk.specs.declared.Desk.{Desk}
 use Rattle.desk.specs.Answers.{Value, Done, opened, stored, holds, waits, sent, held, taken}
-use Rattle.desk.specs.Calls.{blankDesk, freshHead, modeFor, openRules, openOf, writeRules, writeOf, mustWait, readRules, readOf, sendRules, sendOf, deliverRules, deliverOf, takeRules, entriesTaken, takenDesk, waitedFor, takeOf}
+use Rattle.desk.specs.Calls.{sound, blankDesk, freshHead, modeFor, openRules, openOf, writeRules, writeOf, mustWait, readRules, readOf, sendRules, sendOf, deliverRules, deliverOf, takeRules, entriesTaken, takenDesk, waitedFor, takeOf}
 use Rattle.desk.specs.Values.{DeskFits}
-use Rattle.keeping.specs.Promises.{NumbersStay}
+use Rattle.keeping.specs.Promises.{SameNumbers, SameTurn, NumbersStay}
 use Rattle.figure.specs.Figure1.{Model, Updates, Process, Event, writes, reads, blocks, broadcasts, applies, initial, Loop, Step}
 use Rattle.figure.specs.Map.{modelOf, neverWritten, processOf, carried, received}
 
@@ -95,6 +95,8 @@ pub record Arrival (d : Desk) (tray s : List ℕ) (after : Desk) (tray′ : List
   pub same : after ≡ d
   -- no sheet was there: none is lost
   pub was-free : received tray (trailerIn s .sender) ≡ none
+  -- "Puts a sheet in the sender's place in the lent tray."
+  pub place : tray′ ≡ heldIn tray (trailerIn s .sender) s
   pub sheet : sheetAt tray′ (trailerIn s .sender) ≡ s
   pub arrives : received tray′ (trailerIn s .sender) ≡ some (carried s)
   pub others : (q : ℕ) → q ≢ trailerIn s .sender → received tray′ q ≡ received tray q
@@ -122,6 +124,8 @@ pub record TakeStep (d : Desk) (tray : List ℕ) (turn entries applied : ℕ) (w
   pub between : Process Content
   pub step : StepOf d (processOf d tray) (applies (turnDesk (d .head)) (carried (sheetAt tray (turnDesk (d .head)))) entries applied) between
   pub then : Finishes d between waited (processOf after tray′)
+  -- "The place becomes zeros"
+  pub place : tray′ ≡ clearedIn tray (turnDesk (d .head))
 
 pub data TakeSteps (d : Desk) (tray : List ℕ) (after : Desk) (tray′ : List ℕ) : Value → Type 0 where
   takes : (turn entries applied : ℕ) (waited : Option Content) → TakeStep d tray turn entries applied waited after tray′
@@ -191,3 +195,10 @@ abbrev pub LoopsAgree : Type 1
 LoopsAgree =
     (A : Type 0) (n p : ℕ) (model : Model) (own updates : Updates A) (copy : ℕ → A) (k j k′ j′ : ℕ) (after after′ : ℕ → A)
     → Loop n p model own updates copy k j after → Loop n p model own updates copy k′ j′ after′ → SameEnd k j after k′ j′ after′
+
+-- `processOf` leaves nothing of a sound record out but its numbers: two sound records with the same numbers and turn number that are the same process
+-- are the same record. So a step, and `same-process`, settle the whole next record (every call keeps a record sound: `KeepsSound`, crates/keeping)
+abbrev pub RecordSettled : Type 0
+RecordSettled =
+    (d e : Desk) (tray : List ℕ) → DeskFits d → DeskFits e → sound d ≡ true → sound e ≡ true → SameNumbers d e → SameTurn d e
+    → processOf d tray ≡ processOf e tray → d ≡ e

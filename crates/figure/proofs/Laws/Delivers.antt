@@ -35,6 +35,7 @@ deliver-is-an-arrival d tray s v e =
     record {
       same = refl;
       was-free = free-holds-none tray q (allowed .place-free);
+      place = refl;
       sheet = there .sheet-is;
       arrives = rw (held-holds tray q s few room, g, there .sheet-is);
       others = λ p other. received-stays (heldIn tray q s) tray p (held-others tray p q s other);
