@@ -3,6 +3,9 @@ pub mod Writes
 pub mod Reads
 pub mod Opens
 pub mod Loops
+pub mod Agree
 pub mod Takes
 pub mod Delivers
 pub mod Sends
+pub mod Ruled
+pub mod Settled

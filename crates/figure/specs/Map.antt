@@ -16,11 +16,11 @@ use Rattle.tray.specs.Tray.{sheetAt, holdsGood}
 use Rattle.desk.specs.declared.Desk.{Desk}
 use Rattle.figure.specs.Figure1.{Model, sequential, causal, cache, Updates, ∅, include, Process}
 
--- 01: "mode (1 sequential, 2 causal, 3 cache)"
+-- 01: "mode (1 sequential, 2 causal, 3 cache)" (a sound record has no other mode)
 abbrev pub modelOf : ℕ → Model
 modelOf mode = cond (eqb mode 1) sequential (cond (eqb mode 2) causal cache)
 
--- a cell that was never written is blank: so the copies begin
+-- 01: "Blank means never written, the initial value of source document 003": so the copies begin
 abbrev pub neverWritten : ℕ → Content
 neverWritten x = Blank
 
@@ -28,7 +28,7 @@ neverWritten x = Blank
 abbrev pub updatesOf : List ℕ → List ℤ → Updates Content
 updatesOf pkind pday x = cond (filled pkind x) (some (contentAt pkind pday x)) none
 
--- the set that entries make
+-- the set that entries make (of two entries for one cell the first counts; a good sheet has no two)
 abbrev pub updatesIn : List Entry → Updates Content
 updatesIn [] = ∅
 updatesIn (e ∷ es) = include (e .cell) (contentIn e) (updatesIn es)

@@ -14,7 +14,7 @@ use Rattle.keeping.proofs.Laws.Read.{read-sound, read-fits}
 use Rattle.keeping.proofs.Laws.Send.{send-sound, send-fits, sheet-fits, never-11, send-long}
 use Rattle.keeping.proofs.Laws.Deliver.{deliver-same, deliver-long}
 use Rattle.keeping.proofs.Laws.Take.{take-sound, take-fits, take-long}
-use Rattle.keeping.proofs.Laws.Numbers.{write-numbers, read-numbers, send-numbers, deliver-numbers, take-numbers, write-turn, read-turn, send-turn, deliver-turn, take-turn}
+use Rattle.keeping.proofs.Laws.Numbers.{write-numbers, read-numbers, send-numbers, take-numbers, write-turn, read-turn, send-turn, take-turn}
 
 pub open-is-sound : OpenIsSound
 open-is-sound = record { sound-record = open-sound; record-fits = open-fits }
@@ -51,11 +51,10 @@ numbers-stay =
       write = write-numbers;
       read = read-numbers;
       send = send-numbers;
-      deliver = deliver-numbers;
+      deliver = deliver-same;
       take = take-numbers;
       write-turn = write-turn;
       read-turn = read-turn;
       send-turn = send-turn;
-      deliver-turn = deliver-turn;
       take-turn = take-turn;
     }

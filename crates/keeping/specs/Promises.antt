@@ -76,19 +76,19 @@ pub record SameNumbers (before after : Desk) : Type 0 where
 abbrev pub SameTurn : Desk → Desk → Type 0
 SameTurn before after = after .head .turn ≡ before .head .turn
 
--- Send "adds 1 to the turn number", Take: "the turn number goes up by 1", where the call is carried out; where it is refused, it stays
-pub record NextTurn (d : Desk) (done : Done) : Type 0 where
-  pub carried-out : (v : Value) → done .answer ≡ answered v → done .desk .head .turn ≡ d .head .turn + 1
-  pub refused-stays : (k : ℕ) → done .answer ≡ refused k → SameTurn d (done .desk)
+-- Send "adds 1 to the turn number", Take: "the turn number goes up by 1", where the call is carried out. (Where it is refused, the whole record is as
+-- before: `RefusedIsNoStep`, crates/figure/specs/Promises.antt.)
+abbrev pub NextTurn : Desk → Done → Type 0
+NextTurn d done = (v : Value) → done .answer ≡ answered v → done .desk .head .turn ≡ d .head .turn + 1
 
 pub record NumbersStay : Type 0 where
   pub write : (d : Desk) (cell : ℕ) (c : Content) → SameNumbers d (writeOf d cell c .desk)
   pub read : (d : Desk) (cell : ℕ) → SameNumbers d (readOf d cell .desk)
   pub send : (d : Desk) (buf : List ℕ) → SameNumbers d (sendOf d buf .desk)
-  pub deliver : (d : Desk) (tray s : List ℕ) → SameNumbers d (deliverOf d tray s .desk)
+  -- Deliver: "The record stays."
+  pub deliver : (d : Desk) (tray s : List ℕ) → deliverOf d tray s .desk ≡ d
   pub take : (d : Desk) (tray : List ℕ) → SameNumbers d (takeOf d tray .desk)
   pub write-turn : (d : Desk) (cell : ℕ) (c : Content) → SameTurn d (writeOf d cell c .desk)
   pub read-turn : (d : Desk) (cell : ℕ) → SameTurn d (readOf d cell .desk)
   pub send-turn : (d : Desk) (buf : List ℕ) → NextTurn d (sendOf d buf)
-  pub deliver-turn : (d : Desk) (tray s : List ℕ) → SameTurn d (deliverOf d tray s .desk)
   pub take-turn : (d : Desk) (tray : List ℕ) → NextTurn d (takeOf d tray)

@@ -63,7 +63,7 @@ module _ (turn : ℕ) (low : turn < lastTurn) (s : State) (o : InOrder oneCell s
 
   p₁ : turnOf s₁ p ≡ turn + 1
   unfolding s₁
-  p₁ = ap turn-in (own-record document01 s (sends p lent)) ∙ numbers-stay .send-turn (s .desk p) lent .carried-out (sent (turnOf s p) (can .0)) (can .1) ∙ ap (λ (k : ℕ). k + 1) at-p
+  p₁ = ap turn-in (own-record document01 s (sends p lent)) ∙ numbers-stay .send-turn (s .desk p) lent (sent (turnOf s p) (can .0)) (can .1) ∙ ap (λ (k : ℕ). k + 1) at-p
 
   q₁ : turnOf s₁ q ≡ turn
   unfolding s₁
@@ -87,8 +87,8 @@ module _ (turn : ℕ) (low : turn < lastTurn) (s : State) (o : InOrder oneCell s
   unfolding round s₁ s₂ runs.later
   q₃ =
       ap turn-in (own-record document01 s₂ (takes q))
-      ∙ numbers-stay .take-turn (s₂ .desk q) (s₂ .tray q) .carried-out _ (took .accepted)
-      ∙ ap (λ (k : ℕ). k + 1) (ap turn-in (own-record document01 s₁ (delivers q (took .k))) ∙ numbers-stay .deliver-turn (s₁ .desk q) (s₁ .tray q) (sheetNo s₁ (took .k) .bytes) ∙ q₁)
+      ∙ numbers-stay .take-turn (s₂ .desk q) (s₂ .tray q) _ (took .accepted)
+      ∙ ap (λ (k : ℕ). k + 1) (ap turn-in (own-record document01 s₁ (delivers q (took .k))) ∙ ap turn-in (numbers-stay .deliver (s₁ .desk q) (s₁ .tray q) (sheetNo s₁ (took .k) .bytes)) ∙ q₁)
 
   p₃ : turnOf (runs.later document01 s round) p ≡ turn + 1
   unfolding round s₁ s₂ runs.later

@@ -16,7 +16,7 @@ use Rattle.desk.specs.Answers.{Value, held}
 use Rattle.desk.specs.Calls.{deliverRules, deliverOf}
 use Rattle.desk.proofs.Laws.Allowed.{deliver-allows}
 use Rattle.figure.specs.Promises.{Arrival, DeliverSteps, holds-it, DeliverIsAnArrival}
-use Rattle.figure.proofs.Laws.Takes.{received-stays}
+use Rattle.figure.proofs.Laws.Takes.{free-holds-none, received-stays}
 
 pub deliver-is-an-arrival : DeliverIsAnArrival
 unfolding deliverOf
@@ -34,6 +34,8 @@ deliver-is-an-arrival d tray s v e =
     let arrived : Arrival d tray s d (heldIn tray q s) =
     record {
       same = refl;
+      was-free = free-holds-none tray q (allowed .place-free);
+      place = refl;
       sheet = there .sheet-is;
       arrives = rw (held-holds tray q s few room, g, there .sheet-is);
       others = λ p other. received-stays (heldIn tray q s) tray p (held-others tray p q s other);

@@ -159,6 +159,7 @@ take-is-a-step d tray v fits e =
       between = between d es tray;
       step = step;
       then = then-finishes d es tray (clearedIn tray q) left;
+      place = refl;
     }
     in
     subst (λ (x : Desk). TakeSteps d tray x (takeOf d tray .lent) v) (sym (changed-if rules d (takenDesk d es) silent))

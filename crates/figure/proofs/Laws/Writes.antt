@@ -1,4 +1,4 @@
--- A write that is carried out is Figure 1's w_p(x)v, and an open its initialization.
+-- A write that is carried out is Figure 1's w_p(x)v.
 -- Assumes nothing.
 use Prim.Native.Nat.{_<_}
 use mathlib.Core.Path.{_≡_, refl, sym, ap, _∙_, subst, subst₂}

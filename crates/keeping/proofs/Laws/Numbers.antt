@@ -1,34 +1,30 @@
 -- No call changes n, m, own number or mode, and the turn number goes up by 1 in a send and a take that are carried out, and else stays: the next
 -- record of each call says so.
---   write-numbers, read-numbers, send-numbers, deliver-numbers, take-numbers
---   write-turn, read-turn, send-turn, deliver-turn, take-turn
+--   write-numbers, read-numbers, send-numbers, take-numbers
+--   write-turn, read-turn, send-turn, take-turn
+-- That a delivery keeps the whole record is proved in proofs/Laws/Deliver.antt.
 -- Assumes nothing.
-use mathlib.Core.Path.{_≡_, refl, sym, ap, subst}
+use mathlib.Core.Path.{_≡_, refl, sym, subst}
 use mathlib.Core.Bool.{Bool, true, false, cond}
 use mathlib.Core.List.{List}
 use Prim.Native.Nat.{ℕ, _+_}
-use Rattle.answer.specs.Answer.{Rule}
-use Rattle.answer.proofs.Laws.{answered-only-if, changed-if, refused-only-if, unchanged-if}
+use Rattle.answer.specs.Answer.{Rule, answered, answer, leaves}
+use Rattle.answer.proofs.Laws.{answered-only-if, changed-if}
 use Rattle.content.specs.declared.Content.{Content}
 use Rattle.desk.specs.declared.Desk.{Desk}
-use Rattle.desk.specs.Answers.{Value, call}
-use Rattle.desk.specs.Calls.{writeRules, writtenDesk, writeOf, readRules, mustWait, waitingDesk, readOf, sendRules, sentDesk, sendOf, deliverOf, takeRules, entriesTaken, takenDesk, takeOf}
+use Rattle.desk.specs.Answers.{Value}
+use Rattle.desk.specs.Calls.{writeRules, writtenDesk, writeOf, readRules, mustWait, waitingDesk, readOf, sendRules, sentDesk, sendOf, takeRules, entriesTaken, takenDesk, takeOf}
 use Rattle.keeping.specs.Promises.{SameNumbers, SameTurn, NextTurn}
 use Rattle.keeping.proofs.Laws.Rules.{kept}
-use Rattle.keeping.proofs.Laws.Deliver.{deliver-same}
 
 same : {d : Desk} → SameNumbers d d
 same = record { n = refl; m = refl; own = refl; mode = refl }
 
 -- a call whose next record has the turn number after this one's
-next-turn : (rules : List Rule) (d after : Desk) (lent lent′ : List ℕ) (value : Value) → after .head .turn ≡ d .head .turn + 1
-    → NextTurn d (call rules d lent value after lent′)
-next-turn rules d after lent lent′ value next =
-    record {
-      carried-out = λ v e.
-          subst (λ (x : Desk). x .head .turn ≡ d .head .turn + 1) (sym (changed-if rules d after (answered-only-if rules value v e .0))) next;
-      refused-stays = λ k e. ap (λ (x : Desk). x .head .turn) (unchanged-if d after (refused-only-if rules value k e));
-    }
+next-turn : (rules : List Rule) (d after : Desk) (value : Value) → after .head .turn ≡ d .head .turn + 1
+    → (v : Value) → answer rules value ≡ answered v → leaves rules d after .head .turn ≡ d .head .turn + 1
+next-turn rules d after value next v e =
+    subst (λ (x : Desk). x .head .turn ≡ d .head .turn + 1) (sym (changed-if rules d after (answered-only-if rules value v e .0))) next
 
 module _ (d : Desk) (cell : ℕ) (c : Content) where
   pub write-numbers : SameNumbers d (writeOf d cell c .desk)
@@ -61,14 +57,7 @@ module _ (d : Desk) (buf : List ℕ) where
 
   pub send-turn : NextTurn d (sendOf d buf)
   unfolding sendOf
-  send-turn = next-turn (sendRules d buf) d (sentDesk d) buf _ _ refl
-
-module _ (d : Desk) (tray s : List ℕ) where
-  pub deliver-numbers : SameNumbers d (deliverOf d tray s .desk)
-  deliver-numbers = subst (SameNumbers d) (sym (deliver-same d tray s)) same
-
-  pub deliver-turn : SameTurn d (deliverOf d tray s .desk)
-  deliver-turn = ap (λ (x : Desk). x .head .turn) (deliver-same d tray s)
+  send-turn = next-turn (sendRules d buf) d (sentDesk d) _ refl
 
 module _ (d : Desk) (tray : List ℕ) where
   pub take-numbers : SameNumbers d (takeOf d tray .desk)
@@ -77,4 +66,4 @@ module _ (d : Desk) (tray : List ℕ) where
 
   pub take-turn : NextTurn d (takeOf d tray)
   unfolding takeOf
-  take-turn = next-turn (takeRules d tray) d (takenDesk d (entriesTaken d tray)) tray _ _ refl
+  take-turn = next-turn (takeRules d tray) d (takenDesk d (entriesTaken d tray)) _ refl
