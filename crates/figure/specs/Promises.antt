@@ -15,7 +15,7 @@ use Rattle.answer.specs.Answer.{Rule, refused, answered}
 use Rattle.answer.specs.Promises.{Silent, First}
 use Rattle.content.specs.declared.Content.{Content}
 use Rattle.layout.specs.Layout.{trailerIn, numbersOf}
-use Rattle.sheet.specs.Good.{good}
+use Rattle.sheet.specs.Reading.{readingOf}
 use Rattle.cells.specs.Cells.{contentAt}
 use Rattle.sound.specs.Head.{causal, turnDesk}
 use Rattle.tray.specs.Tray.{sheetAt, heldIn, clearedIn}
@@ -77,8 +77,8 @@ pub record SendStep (d : Desk) (tray buf : List ℕ) (turn entries : ℕ) (after
   pub step : StepOf d (processOf d tray) (broadcasts (processOf d tray .updates)) (processOf after tray)
   pub sheet : List ℕ
   pub buffer : buf′ ≡ sheet ++ drop (length sheet) buf
-  pub is-good : good sheet ≡ true
-  pub numbers : numbersOf (trailerIn sheet) ≡ numbersFor (d .head) entries
+  -- demand 2: "a written sheet reads back as the entries sent"
+  pub reads-back : readingOf sheet ≡ answered (record { numbers = numbersFor (d .head) entries; entries = pendingEntries (d .pkind) (d .pday) })
   pub carries : carried sheet ≡ processOf d tray .updates
 
 pub data SendSteps (d : Desk) (tray buf : List ℕ) (after : Desk) (buf′ : List ℕ) : Value → Type 0 where

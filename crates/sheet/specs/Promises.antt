@@ -13,7 +13,7 @@ use Rattle.layout.specs.declared.Entry.{Entry}
 use Rattle.sheet.specs.declared.Reading.{Reading}
 use Rattle.layout.specs.Layout.{contentIn}
 use Rattle.sheet.specs.Good.{good}
-use Rattle.sheet.specs.Reading.{Sheet, readOf, saidRead, noEntry, entryAt}
+use Rattle.sheet.specs.Reading.{Sheet, readingOf, saidRead, noEntry, entryAt}
 
 -- ---- a good sheet gives its entries, where they stand
 
@@ -33,7 +33,7 @@ pub record EntriesStand (s : List ℕ) (sheet : Sheet) : Type 0 where
   pub rise : (j k : ℕ) → j < k → k < sheet .numbers .entries → entryAt s j .cell < entryAt s k .cell
 
 abbrev pub EntriesInPlace : Type 0
-EntriesInPlace = (s : List ℕ) (sheet : Sheet) → readOf s ≡ answered sheet → EntriesStand s sheet
+EntriesInPlace = (s : List ℕ) (sheet : Sheet) → readingOf s ≡ answered sheet → EntriesStand s sheet
 
 -- 01's table: "sheet, bytes" from 12 to 396
 abbrev pub GoodWithin : Type 0

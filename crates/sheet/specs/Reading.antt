@@ -23,8 +23,8 @@ abbrev pub sheetIn : List ℕ → Numbers → Sheet
 sheetIn s n = record { numbers = n; entries = entriesOf (n .entries) s }
 
 -- what reading bytes gives
-unfoldable pub readOf : List ℕ → Answer Sheet
-readOf s = answer (13 if not (good s) ∷ []) (sheetIn s (numbersOf (trailerIn s)))
+unfoldable pub readingOf : List ℕ → Answer Sheet
+readingOf s = answer (13 if not (good s) ∷ []) (sheetIn s (numbersOf (trailerIn s)))
 
 -- what the answer to reading the bytes s says: the entries stay in the bytes, and are read where they stand
 abbrev pub saidRead : List ℕ → Reading → Answer Sheet

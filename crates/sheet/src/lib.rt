@@ -4,7 +4,7 @@
 // and its entries stay in the slice, where `entry_at` reads them one by one. What makes a sheet good
 // is in specs/Good.antt; what it is made of is the crate layout's.
 ghost use mathlib.Core.Path.{_≡_};
-ghost use Rattle.sheet.specs.Reading.{readOf, saidRead, entryAt};
+ghost use Rattle.sheet.specs.Reading.{readingOf, saidRead, entryAt};
 
 mod bytes;
 mod good;
@@ -22,7 +22,7 @@ pub enum Reading {
 
 // 01, "Reading a sheet: 13." Any slice, of any length.
 pub fn read(s: &[u8]) -> Reading
-    ensures { λ r. ⌜ saidRead (now (s .entry)) r ≡ readOf (now (s .entry)) ⌝ }
+    ensures { λ r. ⌜ saidRead (now (s .entry)) r ≡ readingOf (now (s .entry)) ⌝ }
 {
     if s.len() < 12 {
         return Reading::Refused(13);

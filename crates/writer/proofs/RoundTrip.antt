@@ -18,19 +18,19 @@ use Rattle.layout.specs.declared.Numbers.{Numbers}
 use Rattle.layout.specs.declared.Trailer.{Trailer}
 use Rattle.layout.specs.Layout.{entriesOf, trailerIn, trailerBytes, sheetBytes, numbersOf, trailerFor, sheetFor}
 use Rattle.sheet.specs.Good.{good}
-use Rattle.sheet.specs.Reading.{Sheet, sheetIn, readOf}
+use Rattle.sheet.specs.Reading.{Sheet, sheetIn, readingOf}
 use Rattle.layout.specs.Values.{AreBytes, DaysFit, NumbersFit}
 use Rattle.layout.proofs.Laws.{entries-back, entries-count, trailer-back, sheet-again, sheet-length}
 use Rattle.sheet.proofs.Laws.Good.{FairTrailer, good-trailer-is-fair, good-length}
 use Rattle.sheet.proofs.Laws.Reading.{good-read}
-use Rattle.writer.specs.Writing.{writeRules, writtenOf, bufferOf}
+use Rattle.writer.specs.Writing.{writingRules, writtenOf, bufferOf}
 use Rattle.writer.specs.Promises.{WrittenReadsBack, ReadWritesBack}
 use Rattle.writer.proofs.Laws.Writing.{trailer-fits}
 
 -- ---- a written sheet reads back
 
 reads-as-given : (n : Numbers) (es : List Entry) → NumbersFit n → DaysFit (take (n .entries) es) → good (sheetFor n es) ≡ true
-    → readOf (sheetFor n es) ≡ answered (record { numbers = n; entries = take (n .entries) es })
+    → readingOf (sheetFor n es) ≡ answered (record { numbers = n; entries = take (n .entries) es })
 unfolding sheetFor
 reads-as-given n es fit days g =
     let part : List Entry = take (n .entries) es in
@@ -46,9 +46,9 @@ pub written-reads-back : WrittenReadsBack
 unfolding WrittenReadsBack writtenOf bufferOf
 written-reads-back n es buf len fit days e =
     let s : List ℕ = sheetFor n es in
-    let carried-out = answered-only-if (writeRules s buf) (length s) len e in
-    ap (λ (l : List ℕ). readOf (take len l)) (changed-if (writeRules s buf) buf (s ++ drop (length s) buf) (carried-out .0))
-    ∙ ap readOf (take-at s (drop (length s) buf) len (carried-out .1))
+    let carried-out = answered-only-if (writingRules s buf) (length s) len e in
+    ap (λ (l : List ℕ). readingOf (take len l)) (changed-if (writingRules s buf) buf (s ++ drop (length s) buf) (carried-out .0))
+    ∙ ap readingOf (take-at s (drop (length s) buf) len (carried-out .1))
     ∙ reads-as-given n es fit days (not-false (good s) (carried-out .0 .0))
 
 -- ---- a good sheet writes back
@@ -77,12 +77,12 @@ same-bytes s more b g =
     ∙ sheet-again s (t .entries) b (good-length s g)
 
 pub read-writes-back : ReadWritesBack
-unfolding ReadWritesBack readOf writtenOf bufferOf
+unfolding ReadWritesBack readingOf writtenOf bufferOf
 read-writes-back s sheet more buf b e room =
     let carried-out = answered-only-if (13 if not (good s) ∷ []) (sheetIn s (numbersOf (trailerIn s))) sheet e in
     let g : good s ≡ true = not-false (good s) (carried-out .0 .0) in
     let same : sheetFor (sheet .numbers) (sheet .entries ++ more) ≡ s =
     ap (λ (x : Sheet). sheetFor (x .numbers) (x .entries ++ more)) (sym (carried-out .1)) ∙ same-bytes s more b g
     in
-    let silent : Silent (writeRules s buf) = (rw g, (le-ltb (length buf) (length s) room, tt)) in
-    rw same (answered-if (writeRules s buf) (length s) silent, changed-if (writeRules s buf) buf (s ++ drop (length s) buf) silent)
+    let silent : Silent (writingRules s buf) = (rw g, (le-ltb (length buf) (length s) room, tt)) in
+    rw same (answered-if (writingRules s buf) (length s) silent, changed-if (writingRules s buf) buf (s ++ drop (length s) buf) silent)

@@ -9,7 +9,7 @@ use lib.ListN.{length, take, drop}
 use Rattle.answer.specs.Answer.{refused, answered}
 use Rattle.layout.specs.declared.Entry.{Entry}
 use Rattle.layout.specs.declared.Numbers.{Numbers}
-use Rattle.sheet.specs.Reading.{Sheet, readOf}
+use Rattle.sheet.specs.Reading.{Sheet, readingOf}
 use Rattle.layout.specs.Values.{AreBytes, DaysFit, NumbersFit}
 use Rattle.writer.specs.declared.Written.{Written}
 use Rattle.writer.specs.Writing.{writtenOf, bufferOf, saidWritten}
@@ -19,13 +19,13 @@ use Rattle.writer.specs.Writing.{writtenOf, bufferOf, saidWritten}
 unfoldable pub WrittenReadsBack : Type 0
 WrittenReadsBack =
     (n : Numbers) (es : List Entry) (buf : List ℕ) (len : ℕ) → NumbersFit n → DaysFit (take (n .entries) es) → writtenOf n es buf ≡ answered len
-    → readOf (take len (bufferOf n es buf)) ≡ answered (record { numbers = n; entries = take (n .entries) es })
+    → readingOf (take len (bufferOf n es buf)) ≡ answered (record { numbers = n; entries = take (n .entries) es })
 
 -- "a good sheet's entries and trailer numbers write the same bytes again": into any buffer with room, from an array that begins with
 -- the entries read
 unfoldable pub ReadWritesBack : Type 0
 ReadWritesBack =
-    (s : List ℕ) (sheet : Sheet) (more : List Entry) (buf : List ℕ) → AreBytes s → readOf s ≡ answered sheet → length s ≤ length buf
+    (s : List ℕ) (sheet : Sheet) (more : List Entry) (buf : List ℕ) → AreBytes s → readingOf s ≡ answered sheet → length s ≤ length buf
     → (writtenOf (sheet .numbers) (sheet .entries ++ more) buf ≡ answered (length s))
     × (bufferOf (sheet .numbers) (sheet .entries ++ more) buf ≡ s ++ drop (length s) buf)
 

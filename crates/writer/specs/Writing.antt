@@ -16,16 +16,16 @@ use Rattle.writer.specs.declared.Written.{Written}
 use Rattle.writer.specs.declared.Written.the-variants as written
 
 -- for a sheet's bytes and a buffer: 13, then 11
-abbrev pub writeRules : List ℕ → List ℕ → List Rule
-writeRules s buf = 13 if not (good s) ∷ 11 if ltb (length buf) (length s) ∷ []
+abbrev pub writingRules : List ℕ → List ℕ → List Rule
+writingRules s buf = 13 if not (good s) ∷ 11 if ltb (length buf) (length s) ∷ []
 
 -- the answer: the sheet's length
 unfoldable pub writtenOf : Numbers → List Entry → List ℕ → Answer ℕ
-writtenOf n es buf = answer (writeRules (sheetFor n es) buf) (length (sheetFor n es))
+writtenOf n es buf = answer (writingRules (sheetFor n es) buf) (length (sheetFor n es))
 
 -- the buffer afterwards: the sheet, and the bytes past it as they were
 unfoldable pub bufferOf : Numbers → List Entry → List ℕ → List ℕ
-bufferOf n es buf = leaves (writeRules (sheetFor n es) buf) buf (sheetFor n es ++ drop (length (sheetFor n es)) buf)
+bufferOf n es buf = leaves (writingRules (sheetFor n es) buf) buf (sheetFor n es ++ drop (length (sheetFor n es)) buf)
 
 -- what each case of the code's enum says
 abbrev pub saidWritten : Written → Answer ℕ

@@ -137,7 +137,7 @@ module _ (d : Desk) (tray s : List ℕ) where
     unfolding first-two of-sheet
     then-sheet z = second-of-both first-two (13 if not (good s) ∷ of-sheet) two-numbered (two-are ∙ z)
 
-    module _ (z : number ≡ 0) (r : Reading) (reads : sheets.saidRead s r ≡ sheets.readOf s) where
+    module _ (z : number ≡ 0) (r : Reading) (reads : sheets.saidRead s r ≡ sheets.readingOf s) where
       pub deliver-bad : (k : ℕ) → r ≡ reading.Refused k → outcome (record { answer = answers.Refused k; desk = d }) tray ≡ deliverOf d tray s
       unfolding deliverOf of-sheet after
       deliver-bad k e =

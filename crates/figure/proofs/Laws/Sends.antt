@@ -31,7 +31,7 @@ use Rattle.desk.specs.Answers.{Value, sent}
 use Rattle.desk.specs.Calls.{lastTurn, sendRules, sentDesk, sendOf}
 use Rattle.desk.specs.Values.{DeskFits}
 use Rattle.desk.proofs.Laws.Allowed.{desk-says, send-allows}
-use Rattle.keeping.proofs.Laws.Sheets.{sheet-good, sheet-numbers, sheet-entries}
+use Rattle.keeping.proofs.Laws.Sheets.{sheet-read, sheet-entries}
 use Rattle.figure.specs.Figure1.{broadcasts, send}
 use Rattle.figure.specs.Map.{processOf, updatesOf, updatesIn, carried}
 use Rattle.figure.specs.Promises.{StepOf, SendStep, SendSteps, sends, SendIsAStep}
@@ -147,8 +147,7 @@ send-is-a-step d tray buf v fits e =
       step = sent-step d fits s own more tray;
       sheet = bytes;
       buffer = refl;
-      is-good = sheet-good d fits s own more;
-      numbers = sheet-numbers d fits s own more;
+      reads-back = sheet-read d fits s own more;
       carries = sheet-carries d fits s own more;
     }
     in

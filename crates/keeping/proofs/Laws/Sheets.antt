@@ -1,6 +1,6 @@
 -- The sheet of a sound record whose turn it is, below the last turn number: what a send that is carried out sends.
 --   fair-head, fair-places                    the record's numbers and pending places are within limits
---   sheet-good, sheet-numbers, sheet-entries  the sheet is good, and gives back the desk's numbers and the pending entries
+--   sheet-good, sheet-read, sheet-numbers, sheet-entries    the sheet is good, and gives back the desk's numbers and the pending entries
 -- Assumes nothing.
 use Prim.Native.Nat.{ℕ}
 use mathlib.Core.Path.{_≡_, sym, ap, _∙_}
@@ -15,7 +15,7 @@ use Rattle.answer.specs.Answer.{answered}
 use Rattle.layout.specs.declared.Entry.{Entry}
 use Rattle.layout.specs.Layout.{trailerIn, numbersOf, entriesOf}
 use Rattle.sheet.specs.Good.{good}
-use Rattle.sheet.specs.Reading.{Sheet, sheetIn}
+use Rattle.sheet.specs.Reading.{Sheet, sheetIn, readingOf}
 use Rattle.sheet.proofs.Laws.Reading.{good-read}
 use Rattle.cells.specs.Cells.{kindAt, dayAt}
 use Rattle.sound.specs.Head.{ownTurn}
@@ -64,9 +64,11 @@ module _ (d : Desk) (fits : DeskFits d) (s : Sound (d .head) (d .kind) (d .day) 
   pub sheet-good : good sheet ≡ true
   sheet-good = sheet-is-good (d .head) (d .pkind) (d .pday) fair-head fair-places (λ i h. fits .pday i)
 
+  pub sheet-read : readingOf sheet ≡ answered (record { numbers = numbersFor (d .head) (length es); entries = es })
+  sheet-read = sheet-reads-back (d .head) (d .pkind) (d .pday) fair-head fair-places (λ i h. fits .pday i)
+
   read-as : sheetIn sheet (numbersOf (trailerIn sheet)) ≡ record { numbers = numbersFor (d .head) (length es); entries = es }
-  read-as =
-      same-answered _ _ (sym (good-read sheet sheet-good) ∙ sheet-reads-back (d .head) (d .pkind) (d .pday) fair-head fair-places (λ i h. fits .pday i))
+  read-as = same-answered _ _ (sym (good-read sheet sheet-good) ∙ sheet-read)
 
   pub sheet-numbers : numbersOf (trailerIn sheet) ≡ numbersFor (d .head) (length es)
   sheet-numbers = ap (λ (x : Sheet). x .numbers) read-as

@@ -27,7 +27,7 @@ use Rattle.layout.specs.Values.{DaysFit, no-days, a-day}
 use Rattle.layout.proofs.Laws.{TrailerFits, entries-back, trailer-back}
 use Rattle.sheet.specs.Good.{every, rising, below, kindAndDay, good}
 use Rattle.sheet.specs.Clauses.{goodTrailer, goodEntries}
-use Rattle.sheet.specs.Reading.{sheetIn, readOf}
+use Rattle.sheet.specs.Reading.{sheetIn, readingOf}
 use Rattle.sheet.proofs.Laws.Bools.{and-split}
 use Rattle.sheet.proofs.Laws.Good.{sheet-good}
 use Rattle.sheet.proofs.Laws.Reading.{good-read}
@@ -157,7 +157,7 @@ module _ (h : Head) (pkind : List ℕ) (pday : List ℤ) (head : FairHead h) (fa
   sheet-is-good =
       sheet-good es t trailer-fits (pending-days pkind pday fit) refl trailer-good ∙ pending-good pkind pday (h .m) fair
 
-  pub sheet-reads-back : readOf (sheetOf h pkind pday) ≡ answered (record { numbers = numbersFor h (length es); entries = es })
+  pub sheet-reads-back : readingOf (sheetOf h pkind pday) ≡ answered (record { numbers = numbersFor h (length es); entries = es })
   unfolding sheetOf
   sheet-reads-back =
       good-read (sheetOf h pkind pday) sheet-is-good

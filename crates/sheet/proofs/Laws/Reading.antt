@@ -1,4 +1,4 @@
--- Laws of `readOf`, `saidRead` and `entryAt` (specs/Reading.antt).
+-- Laws of `readingOf`, `saidRead` and `entryAt` (specs/Reading.antt).
 --   readings                     a set for `search`: what `read` knows at each of its returns, and what it then answers
 --   good-read, bad-read          what reading gives, by `good` alone
 --   saidRead-tells-apart : ReadingsApart (specs/Promises.antt)
@@ -22,7 +22,7 @@ use Rattle.sheet.specs.declared.Reading.the-variants as reading
 use Rattle.layout.specs.Layout.{entriesOf, trailerIn, numbersOf}
 use Rattle.sheet.specs.Good.{every, nextAbove, rising, below, kindAndDay, good}
 use Rattle.sheet.specs.Clauses.{goodTrailer, goodEntries}
-use Rattle.sheet.specs.Reading.{Sheet, sheetIn, readOf, saidRead, noEntry, entryAt}
+use Rattle.sheet.specs.Reading.{Sheet, sheetIn, readingOf, saidRead, noEntry, entryAt}
 use Rattle.sheet.specs.Promises.{GoodEntry, EntriesStand, EntriesInPlace, ReadingsApart}
 use Rattle.sheet.proofs.Laws.Bools.{and-split}
 use Rattle.layout.proofs.Laws.{entries-count, entry-of-entries}
@@ -31,25 +31,25 @@ use Rattle.sheet.proofs.Laws.Good.{good-is, too-short-is-bad, fair-trai
 -- ---- by good alone
 
 module _ (s : List ℕ) where
-  pub good-read : good s ≡ true → readOf s ≡ answered (sheetIn s (numbersOf (trailerIn s)))
-  unfolding readOf
+  pub good-read : good s ≡ true → readingOf s ≡ answered (sheetIn s (numbersOf (trailerIn s)))
+  unfolding readingOf
   good-read g = rw g
 
-  pub bad-read : good s ≡ false → readOf s ≡ refused 13
-  unfolding readOf
+  pub bad-read : good s ≡ false → readingOf s ≡ refused 13
+  unfolding readingOf
   bad-read g = rw g
 
 -- ---- as the code goes
 
 module _ (s : List ℕ) where
-  pub read-short : length s < 12 → refused 13 ≡ readOf s
+  pub read-short : length s < 12 → refused 13 ≡ readingOf s
   read-short h = sym (bad-read s (too-short-is-bad s h))
 
   module _ (t : Trailer) (is : t ≡ trailerIn s) (long : 12 ≤ length s) where
     good-by : good s ≡ goodTrailer t (length s - 12) && goodEntries (t .cells) (entriesOf (t .entries) s)
     good-by = good-is s long ∙ ap (λ (x : Trailer). goodTrailer x (length s - 12) && goodEntries (x .cells) (entriesOf (x .entries) s)) (sym is)
 
-    pub read-bad-trailer : (g : Bool) → g ≡ goodTrailer t (length s - 12) → not g ≡ true → refused 13 ≡ readOf s
+    pub read-bad-trailer : (g : Bool) → g ≡ goodTrailer t (length s - 12) → not g ≡ true → refused 13 ≡ readingOf s
     read-bad-trailer g test off = sym (bad-read s (good-by ∙ rw (← test, not-true g off)))
 
     module _ (g : Bool) (test : g ≡ goodTrailer t (length s - 12)) (on : not g ≡ false) where
@@ -59,10 +59,10 @@ module _ (s : List ℕ) where
       by-entries : good s ≡ goodEntries (t .cells) (entriesOf (t .entries) s)
       by-entries = good-by ∙ rw (← test, not-false g on)
 
-      pub read-bad-entries : (b : Bool) → b ≡ goodEntries (t .cells) (entriesOf (t .entries) s) → not b ≡ true → refused 13 ≡ readOf s
+      pub read-bad-entries : (b : Bool) → b ≡ goodEntries (t .cells) (entriesOf (t .entries) s) → not b ≡ true → refused 13 ≡ readingOf s
       read-bad-entries b tests off = sym (bad-read s (by-entries ∙ sym tests ∙ not-true b off))
 
-      pub read-good : (b : Bool) → b ≡ goodEntries (t .cells) (entriesOf (t .entries) s) → not b ≡ false → (n : Numbers) → n ≡ numbersOf t → answered (sheetIn s n) ≡ readOf s
+      pub read-good : (b : Bool) → b ≡ goodEntries (t .cells) (entriesOf (t .entries) s) → not b ≡ false → (n : Numbers) → n ≡ numbersOf t → answered (sheetIn s n) ≡ readingOf s
       read-good b tests off n numbers =
           ap (λ (x : Numbers). answered (sheetIn s x)) (numbers ∙ ap numbersOf is) ∙ sym (good-read s (by-entries ∙ sym tests ∙ not-false b off))
 
@@ -137,7 +137,7 @@ rise s g j k l h =
     subst₂ (λ (a b : Entry). a .cell < b .cell) (sym (entry-in-place s g j before)) (sym (entry-in-place s g k h)) apart
 
 pub entries-in-place : EntriesInPlace
-unfolding readOf
+unfolding readingOf
 entries-in-place s sheet e =
     let carried-out = answered-only-if (13 if not (good s) ∷ []) (sheetIn s (numbersOf (trailerIn s))) sheet e in
     let g : good s ≡ true = not-false (good s) (carried-out .0 .0) in

@@ -19,7 +19,7 @@ use Rattle.layout.specs.Layout.{trailerIn, numbersOf}
 use Rattle.sheet.specs.declared.Reading.{Reading}
 use Rattle.sheet.specs.declared.Reading.the-variants as reading
 use Rattle.sheet.specs.Good.{good}
-use Rattle.sheet.specs.Reading.{readOf, saidRead}
+use Rattle.sheet.specs.Reading.{readingOf, saidRead}
 use Rattle.sheet.proofs.Laws.Reading.{good-read, bad-read, saidRead-tells-apart}
 use Rattle.tray.specs.declared.Place.the-variants as place
 use Rattle.tray.specs.Tray.{start, lengthAt, free, sheetAt, restAt, zeros, holdsGood, placeOf}
@@ -45,7 +45,7 @@ module _ (tray : List ℕ) (q : ℕ) where
 -- ---- what a reading says of `good`
 
 module _ (s : List ℕ) (r : Reading) where
-  pub said-good : (n : Numbers) → r ≡ reading.Good n → saidRead s r ≡ readOf s → (good s ≡ true) × (n ≡ numbersOf (trailerIn s))
+  pub said-good : (n : Numbers) → r ≡ reading.Good n → saidRead s r ≡ readingOf s → (good s ≡ true) × (n ≡ numbersOf (trailerIn s))
   said-good n is said = by-test (good s) refl
     where
       by-test : (g : Bool) → good s ≡ g → (good s ≡ true) × (n ≡ numbersOf (trailerIn s))
@@ -54,7 +54,7 @@ module _ (s : List ℕ) (r : Reading) where
           (g, cc)
       by-test false g = let e = bad-read s g in let z : _≡_ {A = ℕ} 0 1 = cc in absurd (omega arith)
 
-  pub said-bad : (k : ℕ) → r ≡ reading.Refused k → saidRead s r ≡ readOf s → good s ≡ false
+  pub said-bad : (k : ℕ) → r ≡ reading.Refused k → saidRead s r ≡ readingOf s → good s ≡ false
   said-bad k is said = by-test (good s) refl
     where
       by-test : (g : Bool) → good s ≡ g → good s ≡ false
@@ -113,14 +113,14 @@ module _ (tray : List ℕ) (q len : ℕ) (is : len ≡ lengthAt tray q) where
               by-good = by-sheet ∙ rw (not-false z on) (and-true (good (sheetAt tray q)));
             }
 
-module _ (tray : List ℕ) (q len : ℕ) (so : BySheet tray q len) (r : Reading) (said : saidRead (take (398 * q + 2 + len - (398 * q + 2)) (drop (398 * q + 2) tray)) r ≡ readOf (take (398 * q + 2 + len - (398 * q + 2)) (drop (398 * q + 2) tray))) where
+module _ (tray : List ℕ) (q len : ℕ) (so : BySheet tray q len) (r : Reading) (said : saidRead (take (398 * q + 2 + len - (398 * q + 2)) (drop (398 * q + 2) tray)) r ≡ readingOf (take (398 * q + 2 + len - (398 * q + 2)) (drop (398 * q + 2) tray))) where
   sheet-is : take (398 * q + 2 + len - (398 * q + 2)) (drop (398 * q + 2) tray) ≡ sheetAt tray q
   sheet-is =
       let many : 398 * q + 2 + len - (398 * q + 2) ≡ len = omega arith in
       rw (many, so .length-is)
 
-  is-said : saidRead (sheetAt tray q) r ≡ readOf (sheetAt tray q)
-  is-said = subst (λ (s : List ℕ). saidRead s r ≡ readOf s) sheet-is said
+  is-said : saidRead (sheetAt tray q) r ≡ readingOf (sheetAt tray q)
+  is-said = subst (λ (s : List ℕ). saidRead s r ≡ readingOf s) sheet-is said
 
   pub look-holds : (n : Numbers) → r ≡ reading.Good n → place.Holds n ≡ placeOf tray q
   look-holds n e =

@@ -25,7 +25,7 @@ use Rattle.writer.specs.declared.Written.the-variants as written
 use Rattle.laying.specs.Laying.{laidOver}
 use Rattle.writer.specs.Parts.{Tested}
 use Rattle.writer.specs.Promises.{RefusedWritesNothing, WritingsApart}
-use Rattle.writer.specs.Writing.{writtenOf, bufferOf, writeRules, saidWritten, Writes}
+use Rattle.writer.specs.Writing.{writtenOf, bufferOf, writingRules, saidWritten, Writes}
 use Rattle.laying.proofs.Laws.{laid-next}
 
 -- ---- by the sheet alone
@@ -46,7 +46,7 @@ module _ (n : Numbers) (es : List Entry) (b : List ℕ) where
 pub refused-writes-nothing : RefusedWritesNothing
 unfolding RefusedWritesNothing writtenOf bufferOf
 refused-writes-nothing n es buf k e =
-    refused-changes-nothing (List ℕ) ℕ (writeRules (sheetFor n es) buf) (length (sheetFor n es)) k buf (sheetFor n es ++ drop (length (sheetFor n es)) buf) e
+    refused-changes-nothing (List ℕ) ℕ (writingRules (sheetFor n es) buf) (length (sheetFor n es)) k buf (sheetFor n es ++ drop (length (sheetFor n es)) buf) e
 
 -- ---- as the code goes
 
