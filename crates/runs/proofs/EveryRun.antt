@@ -5,7 +5,6 @@
 --   not-far-ahead : NotFarAhead
 --   these-never-come : TheseNeverCome
 -- Assumes nothing.
-use Prim.Native.Nat.{ℕ}
 use mathlib.Core.Path.{refl}
 use native.Mathlib.Omega.{arith}
 use Rattle.runs.specs.EveryRun.{EveryDeskOpens, RecordsAsOpened, SheetsInOrder, NotFarAhead, TheseNeverCome}

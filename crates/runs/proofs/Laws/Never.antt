@@ -6,7 +6,7 @@
 use Prim.Native.Nat.{ℕ, _+_, _*_, _<_}
 use mathlib.Core.Path.{_≡_, refl, sym, ap, _∙_}
 use mathlib.Core.Logic.{_≢_}
-use mathlib.Core.Bool.{Bool, true, false, not, _&&_, _||_, false≢true}
+use mathlib.Core.Bool.{Bool, true, false, _&&_, _||_, false≢true}
 use mathlib.Core.List.{List}
 use native.Mathlib.Omega.{arith}
 use lib.Dec.{eqb, leb}
@@ -16,10 +16,10 @@ use Rattle.answer.specs.Answer.{Answer, refused}
 use Rattle.answer.proofs.Laws.{refused-is-not-answered, gives, gives-such, either-way}
 use Rattle.layout.specs.Layout.{trailerIn, numbersOf}
 use Rattle.sound.specs.Head.{turnDesk}
-use Rattle.tray.specs.Tray.{free, sheetAt, holdsGood}
+use Rattle.tray.specs.Tray.{free, sheetAt}
 use Rattle.desk.specs.declared.Desk.{Desk}
 use Rattle.desk.specs.Answers.{Value}
-use Rattle.desk.specs.Calls.{sound, trayFits, isNext}
+use Rattle.desk.specs.Calls.{trayFits}
 use Rattle.desk.proofs.Laws.Next.{Next, next-if}
 use Rattle.runs.specs.Calls.{Call, document01, writes, reads, sends, delivers, takes}
 use Rattle.runs.specs.Run.{Shelf, Sheet, sheetOn, State, made, Possible}
