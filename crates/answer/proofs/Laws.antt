@@ -4,12 +4,14 @@
 --                                                  changes nothing then
 --   silent-if-0, first-if-number, number-of-first, number-of-silent      what the number of the first rule that applies says (specs/Parts.antt)
 --   first-of-both, second-of-both                  rules that are tested in two parts
+--   gives, gives-such, either-way                  whether the number that is given is such a number, as a test that computes on a list of rules: with
+--                                                  `simp` and what is known of some of them, wherever they stand in the list
 --   first-that-applies : EveryCallAnswers, refused-changes-nothing : RefusedChangesNothing (specs/Promises.antt)
 --   refused-is-not-answered                        a refusal is no other answer
 --   apart, again                                   answers have different meanings: shown by a function, mostly `again`, that finds the answer
 -- Assumes nothing.
 use mathlib.Core.Path.{_≡_, refl, sym, ap, _∙_}
-use mathlib.Core.Bool.{Bool, true, false}
+use mathlib.Core.Bool.{Bool, true, false, cond}
 use mathlib.Core.List.{List, [], _∷_, _++_}
 use Prim.Native.Nat.{ℕ}
 use native.Mathlib.Omega.{arith}
@@ -108,6 +110,21 @@ second-of-both rs more some e = by-silence rs (silent-if-0 rs some e)
     by-silence : (rs : List Rule) → Silent rs → numberOf (rs ++ more) ≡ numberOf more
     by-silence [] s = refl
     by-silence (r ∷ rs) s = rw (s .0) (by-silence rs (s .1))
+
+-- ---- which number is given
+
+abbrev pub gives : (ℕ → Bool) → List Rule → Bool
+gives such [] = false
+gives such (r ∷ rs) = cond (r .applies) (such (r .number)) (gives such rs)
+
+pub gives-such : (such : ℕ → Bool) {rs : List Rule} {k : ℕ} → First k rs → gives such rs ≡ such k
+gives-such such (this p n) = rw p (ap such n)
+gives-such such (later p f) = rw p (gives-such such f)
+
+-- whether a rule applies does not matter where the rest gives no such number either
+pub either-way : (t : Bool) → cond t false false ≡ false
+either-way true = refl
+either-way false = refl
 
 -- ---- as specs/Promises.antt states it
 

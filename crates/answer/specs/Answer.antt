@@ -4,13 +4,18 @@
 -- that begins with `said` and gives its cases as an `Answer`.
 -- Assumes nothing.
 use Prim.Native.Nat.{ℕ}
-use mathlib.Core.Bool.{Bool, cond}
+use mathlib.Core.Bool.{Bool, true, false, cond}
 use mathlib.Core.List.{List, [], _∷_}
 
 -- a refusal's number alone, or the values of the call that was carried out
 pub data Answer (A : Type 0) : Type 0 where
   refused : ℕ → Answer A
   answered : A → Answer A
+
+-- it is not refused
+abbrev pub accepted : {A : Type 0} → Answer A → Bool
+accepted (refused k) = false
+accepted (answered a) = true
 
 -- a row of 01's table: a number, and whether it applies
 pub record Rule : Type 0 where

@@ -6,9 +6,9 @@ use mathlib.Core.Bool.{cond}
 use mathlib.Core.List.{List, [], _∷_}
 use mathlib.Core.Option.{Option, none, some}
 use lib.Dec.{eqb}
-use lib.ListN.{replicate}
 use Rattle.runs.specs.Calls.{Call, document01}
 use Rattle.runs.specs.Calls as calls
+unfoldable pub use Rattle.runs.specs.Calls.{sheetRoom}
 use Rattle.runs.specs.Run.{Sheet, State, made, after}
 use Rattle.acting.specs.Step.{Step, Act, writes, reads, sends, delivers, takes}
 use Rattle.acting.specs.Said.{Said, answers, nothingSent}
@@ -25,10 +25,6 @@ latestOf sender line = latestFrom sender 0 none line
 abbrev pub deliversLatest : ℕ → Option ℕ → Option Call
 deliversLatest p none = none
 deliversLatest p (some k) = some (calls.delivers p k)
-
--- "`s` lends 396 bytes."
-unfoldable pub sheetRoom : List ℕ
-sheetRoom = replicate 396 0
 
 -- the call that a step is; `d` is none before the sender has sent
 abbrev pub callBy : State → ℕ → Act → Option Call

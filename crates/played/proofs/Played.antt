@@ -1,6 +1,6 @@
 -- The runs of specs/Played.antt, by computing; that a desk can take comes from `can-take`.
 --   runs-played : RunsPlayed
---   two-within, three-within      the shelves are within limits
+--   on-two, on-three      calls of which a test that computes says that they are a run on two desks, or on three
 -- Assumes nothing.
 use mathlib.Core.Path.{_≡_, refl, sym, _∙_}
 use mathlib.Core.Bool.{true, false, not, _&&_, false≢true}
@@ -16,25 +16,25 @@ use Rattle.content.specs.declared.Content.the-variants.{Open, Day}
 use Rattle.sheet.proofs.Laws.Bools.{and-split}
 use Rattle.tray.specs.Tray.{sheetAt}
 use Rattle.desk.specs.Calls.{lastTurn}
-use Rattle.runs.specs.Calls.{Call, document01, writes, reads, delivers, takes}
-use Rattle.runs.specs.Run.{Shelf, Within, State, sheetNo, start, Run}
-use Rattle.runs.specs.TurnRules.{now, turnOf, HasTurn, CanSend, CanTake, answers-it}
-use Rattle.played.specs.Played.{twoDesks, threeDesks, lent, listingCalls, listingAnswers, ListingIsARun, HoldsUntaken, oneSheet, twoSheets, TwoHold, beforeTheRead, whileItWaits, untilAnswered, waitAnswers, sinceTheRead, LongestWait, sheetOnTheLine, NobodySends, threeSheets, threeSheetsAnswers, Furthest, fullShelf, written, FullSheet, RunsPlayed}
-use Rattle.runs.proofs.InOrder.{stays-in-order}
+use Rattle.runs.specs.Calls.{Calls, Call, document01, writes, reads, delivers, takes, sheetRoom}
+use Rattle.runs.specs.Run.{Shelf, State, sheetNo, start, Run, RunOn, now}
+use Rattle.runs.specs.TurnRules.{turnOf, HasTurn, CanSend, CanTake, answers-it}
+use Rattle.played.specs.Played.{twoDesks, threeDesks, listingCalls, listingAnswers, ListingIsARun, HoldsUntaken, oneSheet, twoSheets, TwoHold, beforeTheRead, whileItWaits, untilAnswered, waitAnswers, sinceTheRead, LongestWait, sheetOnTheLine, NobodySends, threeSheets, threeSheetsAnswers, Furthest, fullShelf, written, FullSheet, RunsPlayed}
+use Rattle.runs.proofs.Laws.Fresh.{in-order}
 use Rattle.runs.proofs.Laws.Going.{can-take}
 use Rattle.runs.proofs.Laws.Shelves.{sized}
 use Rattle.runs.proofs.Laws.Lists.{run-append}
-use Rattle.played.proofs.Laws.Tested.{computing, below-two, below-three, is-possible, is-run, answered-last, someSeen, seesTake, no-take, no-answer}
+use Rattle.played.proofs.Laws.Tested.{computing, below-two, below-three, is-possible, allPossible, is-run, answered-last, someSeen, seesTake, no-take, no-answer}
 
-pub two-within : Within twoDesks
-two-within = sized 2 2 1 refl
+pub on-two : (calls : Calls) (cs : List Call) → allPossible calls 2 (start twoDesks) cs ≡ true → RunOn calls twoDesks cs
+on-two calls cs e = record { within = sized 2 2 1 refl; run = is-run calls 2 (start twoDesks) cs e }
 
-pub three-within : Within threeDesks
-three-within = sized 3 2 1 refl
+pub on-three : (calls : Calls) (cs : List Call) → allPossible calls 3 (start threeDesks) cs ≡ true → RunOn calls threeDesks cs
+on-three calls cs e = record { within = sized 3 2 1 refl; run = is-run calls 3 (start threeDesks) cs e }
 
 listing : ListingIsARun
-unfolding computing lent listingCalls listingAnswers
-listing = record { within = two-within; run = is-run document01 2 (start twoDesks) listingCalls refl; answers-are = refl }
+unfolding computing sheetRoom listingCalls listingAnswers
+listing = record { run = on-two document01 listingCalls refl; answers-are = refl }
 
 -- an empty sheet of 3 desks and 2 cells, by the desk and with the turn number k
 empty : ℕ → List ℕ
@@ -61,27 +61,27 @@ module _ (cs : List Call) (p k : ℕ) where
       }
 
 -- a desk whose turn number is below the line and not its own can take
-takes-next : (shelf : Shelf) → Within shelf → (cs : List Call) (p : ℕ) → Run document01 (shelf .n) (start shelf) cs
+takes-next : (shelf : Shelf) (cs : List Call) (p : ℕ) → RunOn document01 shelf cs
     → (let k = turnOf (now document01 shelf cs) p in ltb p (shelf .n) && ltb k (length (now document01 shelf cs .line)) && not (eqb (k % shelf .n) p) && ltb k lastTurn ≡ true)
     → CanTake document01 (now document01 shelf cs) p
-takes-next shelf w cs p r e =
+takes-next shelf cs p r e =
     let k = turnOf (now document01 shelf cs) p in
     let low = and-split (ltb p (shelf .n) && ltb k (length (now document01 shelf cs .line)) && not (eqb (k % shelf .n) p)) (ltb k lastTurn) e in
     let other = and-split (ltb p (shelf .n) && ltb k (length (now document01 shelf cs .line))) (not (eqb (k % shelf .n) p)) (low .0) in
     let behind = and-split (ltb p (shelf .n)) (ltb k (length (now document01 shelf cs .line))) (other .0) in
-    can-take (stays-in-order .run shelf (start shelf) cs (stays-in-order .fresh shelf w) r) p (ltb-true _ _ (behind .0)) (ltb-true _ _ (behind .1)) (eqb-false (k % shelf .n) p (not-true _ (other .1))) (ltb-true _ _ (low .1))
+    can-take (in-order shelf cs r) p (ltb-true _ _ (behind .0)) (ltb-true _ _ (behind .1)) (eqb-false (k % shelf .n) p (not-true _ (other .1))) (ltb-true _ _ (low .1))
 
 two-hold : TwoHold
-unfolding computing lent oneSheet twoSheets empty
+unfolding computing sheetRoom oneSheet twoSheets empty
 two-hold =
     record {
-      one-plays = record { within = three-within; run = is-run document01 3 (start threeDesks) oneSheet refl; answers-are = refl };
+      one-plays = record { run = on-three document01 oneSheet refl; answers-are = refl };
       desk-1 = holds-untaken oneSheet 1 0 refl refl refl refl;
       desk-2 = holds-untaken oneSheet 2 0 refl refl refl refl;
       no-turn = below-three (λ p. HasTurn (now document01 threeDesks oneSheet) p → ⊥) false≢true false≢true false≢true;
       there-already = refl;
-      can-take = takes-next threeDesks three-within oneSheet 1 (is-run document01 3 (start threeDesks) oneSheet refl) refl;
-      two-play = record { within = three-within; run = is-run document01 3 (start threeDesks) twoSheets refl; answers-are = refl };
+      can-take = takes-next threeDesks oneSheet 1 (on-three document01 oneSheet refl) refl;
+      two-play = record { run = on-three document01 twoSheets refl; answers-are = refl };
       from-desk-0 = refl;
       from-desk-1 = refl;
       sheet-0 = holds-untaken twoSheets 2 0 refl refl refl refl;
@@ -89,15 +89,11 @@ two-hold =
     }
 
 longest-wait : LongestWait
-unfolding computing lent beforeTheRead whileItWaits untilAnswered waitAnswers
+unfolding computing sheetRoom beforeTheRead whileItWaits untilAnswered waitAnswers
 longest-wait =
     record {
       plays =
-          record {
-            within = three-within;
-            run = is-run document01 3 (start threeDesks) (beforeTheRead ++ reads 0 1 ∷ untilAnswered) refl;
-            answers-are = refl;
-          };
+          record { run = on-three document01 (beforeTheRead ++ reads 0 1 ∷ untilAnswered) refl; answers-are = refl };
       read-waits = refl;
       one-take = refl;
       not-yet = no-answer document01 0 1 sinceTheRead whileItWaits refl;
@@ -107,26 +103,26 @@ longest-wait =
     }
 
 nobody-sends : NobodySends
-unfolding computing lent sheetOnTheLine
+unfolding computing sheetRoom sheetOnTheLine
 nobody-sends =
     let s = now document01 twoDesks sheetOnTheLine in
     record {
       fresh = refl;
-      plays = record { within = two-within; run = is-run document01 2 (start twoDesks) sheetOnTheLine refl; answers-are = refl };
+      plays = record { run = on-two document01 sheetOnTheLine refl; answers-are = refl };
       before-the-end = below-two (λ p. turnOf s p < lastTurn) (ltb-true 1 lastTurn refl) (ltb-true 0 lastTurn refl);
       no-turn = below-two (λ p. HasTurn s p → ⊥) false≢true false≢true;
       no-send =
           below-two (λ p. CanSend document01 s p → ⊥)
-          (λ can. refused-is-not-answered 9 _ (can lent (omega arith) .1))
-          (λ can. refused-is-not-answered 9 _ (can lent (omega arith) .1));
-      next-sheet = takes-next twoDesks two-within sheetOnTheLine 1 (is-run document01 2 (start twoDesks) sheetOnTheLine refl) refl;
+          (λ can. refused-is-not-answered 9 _ (can sheetRoom (omega arith) .1))
+          (λ can. refused-is-not-answered 9 _ (can sheetRoom (omega arith) .1));
+      next-sheet = takes-next twoDesks sheetOnTheLine 1 (on-two document01 sheetOnTheLine refl) refl;
     }
 
 furthest : Furthest
-unfolding computing lent threeSheets threeSheetsAnswers
+unfolding computing sheetRoom threeSheets threeSheetsAnswers
 furthest =
     record {
-      plays = record { within = three-within; run = is-run document01 3 (start threeDesks) threeSheets refl; answers-are = refl };
+      plays = record { run = on-three document01 threeSheets refl; answers-are = refl };
       turn = refl;
       number = refl;
       possible = is-possible 3 (now document01 threeDesks threeSheets) (delivers 0 2) refl;
@@ -143,8 +139,7 @@ full-sheet : FullSheet
 unfolding computing written
 full-sheet =
     record {
-      within = sized 1 64 2 refl;
-      run = written-runs 64;
+      run = record { within = sized 1 64 2 refl; run = written-runs 64 };
       too-few = refl;
       enough = refl;
     }

@@ -6,48 +6,45 @@ use mathlib.Core.Logic.{_⊎_, inl, inr}
 use mathlib.Core.List.{List, [], _∷_}
 use Prim.Native.Nat.{ℕ, _<_}
 use native.Mathlib.Omega.{arith}
-use borrow.Author.Tests.{ltb-true}
+use borrow.Author.Tests.{ltb-true, leb-true}
 use Rattle.answer.specs.Answer.{refused}
 use Rattle.answer.proofs.Laws.{refused-is-not-answered}
 use Rattle.desk.specs.Calls.{lastTurn}
-use Rattle.runs.specs.Calls.{Call, reads, sends, delivers, takes}
-use Rattle.runs.specs.Run.{State, start, made, after}
-use Rattle.runs.specs.TurnRules.{now, turnOf, OneTurn, OneSheet, No17, GoesOn, WaitEnds, Untaken, CanSend, CanTake}
-use Rattle.played.specs.Played.{twoDesks, threeDesks, lent, threeSheets}
+use Rattle.runs.specs.Calls.{Call, reads, sends, delivers, takes, sheetRoom}
+use Rattle.runs.specs.Run.{State, start, made, after, now}
+use Rattle.runs.specs.TurnRules.{turnOf, OneTurn, OneSheet, Never, GoesOn, WaitEnds, Untaken, CanSend, CanTake, takesBy}
+use Rattle.played.specs.Played.{twoDesks, threeDesks, threeSheets}
 use Rattle.played.specs.Wrong.{Bites, sendKeepingTurn, sendKeepsTurn, sentAndTaken, sentTwice, deliverRefusingEarly, refuses17Early, takeLeavingSheet, takeLeavesSheet, roundAndOn, takeEndingNoRead, sendEndingRead, readEndsAtSend, oneWritten, EachPartBites}
 use Rattle.played.proofs.Laws.Tested.{computing, below-two, below-three, is-possible, is-run, no-take, no-answer}
-use Rattle.played.proofs.Played.{two-within, three-within}
+use Rattle.played.proofs.Played.{on-two, on-three}
 
 zero-is-not-one : _≡_ {A = ℕ} 0 1 → ⊥
 zero-is-not-one e = omega arith
 
 one-turn : Bites OneTurn sendKeepsTurn twoDesks sentAndTaken
-unfolding computing lent sendKeepingTurn sentAndTaken
+unfolding computing sheetRoom sendKeepingTurn sentAndTaken
 one-turn =
     record {
-      within = two-within;
-      run = is-run sendKeepsTurn 2 (start twoDesks) sentAndTaken refl;
+      run = on-two sendKeepsTurn sentAndTaken refl;
       is-false = λ part. zero-is-not-one (part 0 1 (omega arith) (omega arith) refl refl);
     }
 
 one-sheet : Bites OneSheet sendKeepsTurn twoDesks sentTwice
-unfolding computing lent sendKeepingTurn sentTwice
+unfolding computing sheetRoom sendKeepingTurn sentTwice
 one-sheet =
     record {
-      within = two-within;
-      run = is-run sendKeepsTurn 2 (start twoDesks) sentTwice refl;
+      run = on-two sendKeepsTurn sentTwice refl;
       is-false = λ part. zero-is-not-one (part 1 0 (omega arith) zero-is-not-one 0 1 refl refl (untaken 0 (omega arith)) (untaken 1 (omega arith)));
     }
   where
     untaken : (k : ℕ) → k < 2 → Untaken sendKeepsTurn twoDesks sentTwice 1 k
     untaken k h = record { sent = h; untaken = no-take sendKeepsTurn 1 _ (start twoDesks) sentTwice refl }
 
-no-17 : Bites No17 refuses17Early threeDesks threeSheets
-unfolding computing lent deliverRefusingEarly threeSheets
+no-17 : Bites (Never 17) refuses17Early threeDesks threeSheets
+unfolding computing sheetRoom deliverRefusingEarly threeSheets
 no-17 =
     record {
-      within = three-within;
-      run = is-run refuses17Early 3 (start threeDesks) threeSheets refl;
+      run = on-three refuses17Early threeSheets refl;
       is-false = λ part. part (delivers 0 2) (is-possible 3 (now refuses17Early threeDesks threeSheets) (delivers 0 2) refl) refl;
     }
 
@@ -55,26 +52,25 @@ no-17 =
 stuck : State
 stuck = now takeLeavesSheet twoDesks roundAndOn
 
-no-send : (p : ℕ) → p < 2 → made takeLeavesSheet stuck (sends p lent) .answer ≡ refused 9
-unfolding computing lent takeLeavingSheet roundAndOn stuck
-no-send = below-two (λ p. made takeLeavesSheet stuck (sends p lent) .answer ≡ refused 9) refl refl
+no-send : (p : ℕ) → p < 2 → made takeLeavesSheet stuck (sends p sheetRoom) .answer ≡ refused 9
+unfolding computing sheetRoom takeLeavingSheet roundAndOn stuck
+no-send = below-two (λ p. made takeLeavesSheet stuck (sends p sheetRoom) .answer ≡ refused 9) refl refl
 
 abbrev NoNext : ℕ → ℕ → Type 0
 NoNext p k = made takeLeavesSheet (after takeLeavesSheet stuck (delivers p k)) (takes p) .answer ≡ refused 21
 
 no-next : (p : ℕ) → p < 2 → (k : ℕ) → k < 3 → NoNext p k
-unfolding computing lent takeLeavingSheet roundAndOn stuck
+unfolding computing sheetRoom takeLeavingSheet roundAndOn stuck
 no-next =
     below-two (λ p. (k : ℕ) → k < 3 → NoNext p k)
     (below-three (NoNext 0) refl refl refl)
     (below-three (NoNext 1) refl refl refl)
 
 goes-on : Bites GoesOn takeLeavesSheet twoDesks roundAndOn
-unfolding computing lent takeLeavingSheet roundAndOn stuck
+unfolding computing sheetRoom takeLeavingSheet roundAndOn stuck
 goes-on =
     record {
-      within = two-within;
-      run = is-run takeLeavesSheet 2 (start twoDesks) roundAndOn refl;
+      run = on-two takeLeavesSheet roundAndOn refl;
       is-false = λ part. let can = part before-the-end in neither (can .0) (can .1) (can .2);
     }
   where
@@ -82,18 +78,17 @@ goes-on =
     before-the-end = below-two (λ p. turnOf stuck p < lastTurn) (ltb-true 3 lastTurn refl) (ltb-true 2 lastTurn refl)
 
     neither : (p : ℕ) → p < 2 → CanSend takeLeavesSheet stuck p ⊎ CanTake takeLeavesSheet stuck p → ⊥
-    neither p h (inl can) = refused-is-not-answered 9 _ (sym (no-send p h) ∙ can lent (omega arith) .1)
-    neither p h (inr can) = refused-is-not-answered 21 _ (sym (no-next p h (can .k) (can .sent)) ∙ can .accepted)
+    neither p h (inl can) = refused-is-not-answered 9 _ (sym (no-send p h) ∙ can sheetRoom (omega arith) .1)
+    neither p h (inr can) = refused-is-not-answered 21 _ (sym (no-next p h (can .k) (can .sent)) ∙ can .taken-then)
 
 wait-ends : Bites WaitEnds readEndsAtSend twoDesks oneWritten
-unfolding computing lent sendEndingRead takeEndingNoRead oneWritten
+unfolding computing sheetRoom sendEndingRead takeEndingNoRead oneWritten
 wait-ends =
     record {
-      within = two-within;
-      run = is-run readEndsAtSend 2 (start twoDesks) oneWritten refl;
+      run = on-two readEndsAtSend oneWritten refl;
       is-false =
           λ part.
-          let said = part 1 1 (omega arith) refl onwards (is-run readEndsAtSend 2 s onwards refl) refl in
+          let said = part 1 1 (omega arith) refl onwards (is-run readEndsAtSend 2 s onwards refl) (leb-true 1 (takesBy readEndsAtSend 1 s onwards) refl) in
           no-answer readEndsAtSend 1 1 s onwards refl said;
     }
   where
@@ -102,7 +97,7 @@ wait-ends =
 
     -- desk 1's accepted take number 1, and its next send
     onwards : List Call
-    onwards = sends 0 lent ∷ delivers 1 0 ∷ takes 1 ∷ sends 1 lent ∷ []
+    onwards = sends 0 sheetRoom ∷ delivers 1 0 ∷ takes 1 ∷ sends 1 sheetRoom ∷ []
 
 pub each-part-bites : EachPartBites
 each-part-bites = record { one-turn = one-turn; one-sheet = one-sheet; no-17 = no-17; goes-on = goes-on; wait-ends = wait-ends }

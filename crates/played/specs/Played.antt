@@ -10,11 +10,10 @@ use lib.ListN.{replicate}
 use Rattle.answer.specs.Answer.{Answer, refused, answered}
 use Rattle.content.specs.declared.Content.the-variants.{Blank, Open, Day}
 use Rattle.layout.specs.Layout.{trailerIn}
-use Rattle.tray.specs.Tray.{sheetAt}
 use Rattle.desk.specs.Answers.{Value, stored, holds, waits, sent, held, taken}
-use Rattle.runs.specs.Calls.{Call, document01, writes, reads, sends, delivers, takes}
-use Rattle.runs.specs.Run.{Shelf, Within, State, sheetNo, start, made, after, Possible, Run, answers}
-use Rattle.runs.specs.TurnRules.{now, turnOf, BeforeTheEnd, HasTurn, Untaken, CanSend, CanTake, takesBy, ReadAnswered}
+use Rattle.runs.specs.Calls.{Call, document01, writes, reads, sends, delivers, takes, sheetRoom}
+use Rattle.runs.specs.Run.{Shelf, State, sheetNo, start, made, after, Possible, answersOf, RunOn, now}
+use Rattle.runs.specs.TurnRules.{turnOf, BeforeTheEnd, HasTurn, Untaken, CanSend, InTray, CanTake, takesBy, ReadAnswered}
 
 -- ---- what the runs share
 
@@ -26,15 +25,10 @@ twoDesks = record { n = 2; m = 2; mode = λ p. 1 }
 abbrev pub threeDesks : Shelf
 threeDesks = record { n = 3; m = 2; mode = λ p. 1 }
 
--- "`s` lends 396 bytes."
-unfoldable pub lent : List ℕ
-lent = replicate 396 0
-
 -- these calls are a run on this shelf, and this is what they answer
 pub record Plays (shelf : Shelf) (cs : List Call) (said : List (Answer Value)) : Type 0 where
-  pub within : Within shelf
-  pub run : Run document01 (shelf .n) (start shelf) cs
-  pub answers-are : answers document01 (start shelf) cs ≡ said
+  pub run : RunOn document01 shelf cs
+  pub answers-are : answersOf document01 (start shelf) cs ≡ said
 
 -- ---- 01, "The program `rounds`": its input and its output
 
@@ -43,10 +37,10 @@ listingCalls =
     writes 1 0 (Day (pos 0))
     ∷ reads 1 1
     ∷ reads 1 0
-    ∷ sends 0 lent
+    ∷ sends 0 sheetRoom
     ∷ delivers 1 0
     ∷ takes 1
-    ∷ sends 1 lent
+    ∷ sends 1 sheetRoom
     ∷ writes 0 1 Open
     ∷ delivers 0 1
     ∷ takes 0
@@ -73,18 +67,18 @@ ListingIsARun = Plays twoDesks listingCalls listingAnswers
 
 -- ---- "a desk has at most one sent and untaken sheet from each other desk": of several desks it may have one each
 
--- desk p has sheet k in its tray, at its sender's place, and has not taken it
+-- desk p has sheet k in its tray, and has not taken it
 pub record HoldsUntaken (shelf : Shelf) (cs : List Call) (p k : ℕ) : Type 0 where
-  pub in-tray : (let s = now document01 shelf cs in sheetAt (s .tray p) (sheetNo s k .from) ≡ sheetNo s k .bytes)
+  pub in-tray : InTray (now document01 shelf cs) p k
   pub untaken : Untaken document01 shelf cs p k
 
 -- desk 0 sends sheet 0, and it is delivered to desks 1 and 2
 unfoldable pub oneSheet : List Call
-oneSheet = sends 0 lent ∷ delivers 1 0 ∷ delivers 2 0 ∷ []
+oneSheet = sends 0 sheetRoom ∷ delivers 1 0 ∷ delivers 2 0 ∷ []
 
 -- then desk 1 takes it and sends sheet 1, which is delivered to desk 2
 unfoldable pub twoSheets : List Call
-twoSheets = sends 0 lent ∷ delivers 1 0 ∷ delivers 2 0 ∷ takes 1 ∷ sends 1 lent ∷ delivers 2 1 ∷ []
+twoSheets = sends 0 sheetRoom ∷ delivers 1 0 ∷ delivers 2 0 ∷ takes 1 ∷ sends 1 sheetRoom ∷ delivers 2 1 ∷ []
 
 pub record TwoHold : Type 0 where
   pub one-plays : Plays threeDesks oneSheet (answered (sent 0 0) ∷ answered held ∷ answered held ∷ [])
@@ -108,14 +102,14 @@ pub record TwoHold : Type 0 where
 
 -- desk 0 sends, and writes cell 0; it then reads cell 1
 unfoldable pub beforeTheRead : List Call
-beforeTheRead = sends 0 lent ∷ writes 0 0 Open ∷ []
+beforeTheRead = sends 0 sheetRoom ∷ writes 0 0 Open ∷ []
 
 -- it takes desk 1's sheet; desk 2 writes that cell, takes both sheets and sends, and its sheet is delivered to desk 0
 unfoldable pub whileItWaits : List Call
 whileItWaits =
     delivers 1 0
     ∷ takes 1
-    ∷ sends 1 lent
+    ∷ sends 1 sheetRoom
     ∷ delivers 0 1
     ∷ takes 0
     ∷ writes 2 1 (Day (pos 9))
@@ -123,7 +117,7 @@ whileItWaits =
     ∷ takes 2
     ∷ delivers 2 1
     ∷ takes 2
-    ∷ sends 2 lent
+    ∷ sends 2 sheetRoom
     ∷ delivers 0 2
     ∷ []
 
@@ -166,7 +160,7 @@ pub record LongestWait : Type 0 where
 -- ---- "some desk can send into 396 bytes, or can take its next sheet": there may be no desk that can send
 
 unfoldable pub sheetOnTheLine : List Call
-sheetOnTheLine = sends 0 lent ∷ []
+sheetOnTheLine = sends 0 sheetRoom ∷ []
 
 pub record NobodySends : Type 0 where
   -- on a fresh shelf desk 0 "has its own turn"
@@ -180,19 +174,19 @@ pub record NobodySends : Type 0 where
 
 -- ---- "refusal 17 never comes": how near to it a delivery gets
 
--- 01's table, 17: "sheet's number at or above turn number + n". The greatest that can be delivered is turn number + n - 2 (crates/runs/specs/InOrder.antt,
+-- 01's table, 17: "sheet's number at or above turn number + n". The greatest that can be delivered is turn number + n - 2 (crates/runs/specs/EveryRun.antt,
 -- `NotFarAhead`), and here it is: desk 0 sends sheet 0, desk 1 sheet 1 and desk 2 sheet 2, before desk 0 takes any
 unfoldable pub threeSheets : List Call
 threeSheets =
-    sends 0 lent
+    sends 0 sheetRoom
     ∷ delivers 1 0
     ∷ takes 1
-    ∷ sends 1 lent
+    ∷ sends 1 sheetRoom
     ∷ delivers 2 0
     ∷ takes 2
     ∷ delivers 2 1
     ∷ takes 2
-    ∷ sends 2 lent
+    ∷ sends 2 sheetRoom
     ∷ []
 
 unfoldable pub threeSheetsAnswers : List (Answer Value)
@@ -226,8 +220,7 @@ written zero = []
 written (suc k) = written k ++ writes 0 k Open ∷ []
 
 pub record FullSheet : Type 0 where
-  pub within : Within fullShelf
-  pub run : Run document01 1 (start fullShelf) (written 64)
+  pub run : RunOn document01 fullShelf (written 64)
   pub too-few : made document01 (now document01 fullShelf (written 64)) (sends 0 (replicate 395 0)) .answer ≡ refused 11
   pub enough : made document01 (now document01 fullShelf (written 64)) (sends 0 (replicate 396 0)) .answer ≡ answered (sent 0 64)
 

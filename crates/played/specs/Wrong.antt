@@ -13,15 +13,14 @@ use Rattle.sound.specs.declared.Head.{Head}
 use Rattle.desk.specs.declared.Desk.{Desk}
 use Rattle.desk.specs.Answers.{Done}
 use Rattle.desk.specs.Calls.{writeOf, readOf, sendRules, sendOf, deliverOf, takeOf}
-use Rattle.runs.specs.Calls.{Calls, Call, writes, sends, delivers, takes}
-use Rattle.runs.specs.Run.{Shelf, Within, start, Run}
-use Rattle.runs.specs.TurnRules.{OneTurn, OneSheet, No17, GoesOn, WaitEnds}
-use Rattle.played.specs.Played.{twoDesks, threeDesks, lent, threeSheets}
+use Rattle.runs.specs.Calls.{Calls, Call, writes, sends, delivers, takes, sheetRoom}
+use Rattle.runs.specs.Run.{Shelf, RunOn}
+use Rattle.runs.specs.TurnRules.{OneTurn, OneSheet, Never, GoesOn, WaitEnds}
+use Rattle.played.specs.Played.{twoDesks, threeDesks, threeSheets}
 
 -- such a run, after which this part is false
 pub record Bites (part : Calls → Shelf → List Call → Type 0) (calls : Calls) (shelf : Shelf) (cs : List Call) : Type 0 where
-  pub within : Within shelf
-  pub run : Run calls (shelf .n) (start shelf) cs
+  pub run : RunOn calls shelf cs
   pub is-false : part calls shelf cs → ⊥
 
 -- the other calls are 01's
@@ -45,16 +44,16 @@ sendKeepsTurn = callsWith sendKeepingTurn deliverOf takeOf
 
 -- desk 0 sends and keeps its turn; desk 1 takes that sheet and has its own turn, too
 unfoldable pub sentAndTaken : List Call
-sentAndTaken = sends 0 lent ∷ delivers 1 0 ∷ takes 1 ∷ []
+sentAndTaken = sends 0 sheetRoom ∷ delivers 1 0 ∷ takes 1 ∷ []
 
 -- desk 0 sends twice, and desk 1 has two sheets from it to take
 unfoldable pub sentTwice : List Call
-sentTwice = sends 0 lent ∷ sends 0 lent ∷ []
+sentTwice = sends 0 sheetRoom ∷ sends 0 sheetRoom ∷ []
 
 -- ---- 3, "refusal 17 never comes"
 
--- a delivery that is refused with 17 from turn number + n - 2 on, two numbers before 01's: with a bound one number before 01's no sheet of a run would
--- be refused either (crates/runs/specs/InOrder.antt, `NotFarAhead`)
+-- a delivery that is refused with 17, before any other test, from turn number + n - 2 on, two numbers before 01's: with a bound one number before
+-- 01's no sheet of a run would be refused either (crates/runs/specs/EveryRun.antt, `NotFarAhead`)
 unfoldable pub deliverRefusingEarly : Desk → List ℕ → List ℕ → Done
 deliverRefusingEarly d tray s =
     cond (leb (d .head .turn + d .head .n) (trailerIn s .turn + 2)) (record { answer = refused 17; desk = d; lent = tray })
@@ -74,7 +73,7 @@ takeLeavesSheet = callsWith sendOf deliverOf takeLeavingSheet
 
 -- the turn has gone round once and desk 0 has sent again: this is desk 1's next sheet, and there is no free place for it
 unfoldable pub roundAndOn : List Call
-roundAndOn = sends 0 lent ∷ delivers 1 0 ∷ takes 1 ∷ sends 1 lent ∷ delivers 0 1 ∷ takes 0 ∷ sends 0 lent ∷ []
+roundAndOn = sends 0 sheetRoom ∷ delivers 1 0 ∷ takes 1 ∷ sends 1 sheetRoom ∷ delivers 0 1 ∷ takes 0 ∷ sends 0 sheetRoom ∷ []
 
 -- ---- 5, "A read that waits is answered by its desk's accepted take number n-1 at the latest"
 
@@ -110,6 +109,6 @@ pub record EachPartBites : Type 0 where
   pub one-turn : Bites OneTurn sendKeepsTurn twoDesks sentAndTaken
   pub one-sheet : Bites OneSheet sendKeepsTurn twoDesks sentTwice
   -- the run of `Furthest`, and the delivery that is held there
-  pub no-17 : Bites No17 refuses17Early threeDesks threeSheets
+  pub no-17 : Bites (Never 17) refuses17Early threeDesks threeSheets
   pub goes-on : Bites GoesOn takeLeavesSheet twoDesks roundAndOn
   pub wait-ends : Bites WaitEnds readEndsAtSend twoDesks oneWritten

@@ -19,7 +19,7 @@ use Rattle.content.specs.Content.{dayOf}
 use Rattle.desk.specs.Answers.{Value}
 use Rattle.desk.specs.Calls.{modeFor, openOf}
 use Rattle.runs.specs.Calls.{Call, document01}
-use Rattle.runs.specs.Run.{Sheet, State, start, made, after, Possible, Run, answers}
+use Rattle.runs.specs.Run.{Within, Sheet, State, start, made, after, Possible, Run, answersOf}
 use Rattle.runs.proofs.TurnRules.{turn-rules}
 use Rattle.runs.proofs.Laws.Lists.{run-split}
 use Rattle.acting.specs.Step.{Act, Step}
@@ -31,7 +31,7 @@ use Rattle.schedule.specs.Promises.{Fair}
 use Rattle.schedule.proofs.Laws.Promised.{steps-are-fair}
 use Rattle.printing.specs.Printing.{lineText, headerText}
 use Rattle.play.specs.Steps.{latestFrom, latestOf, deliversLatest, callBy, callOf, saidBy, saidOf, afterBy, afterStep}
-use Rattle.play.specs.Rounds.{stepText, stepsText, shelfOf, badStart, runText, linesText, printed}
+use Rattle.play.specs.Rounds.{stepText, stepsText, shelfOf, opens, badStart, runText, linesText, printed}
 use Rattle.ruled.specs.Promises.{FirstAsAll, stepsThen, stepsIn, endsThen, endsBadly, callsThen, callsOf, saysOf, numbered, answersIn, SchedulesAreRuns}
 use Rattle.play.proofs.Laws.Whole.{opens-says}
 use Rattle.text.specs.Text.{text}
@@ -54,13 +54,13 @@ text-is n k s (line ∷ lines) = by-step (stepIn n line) (λ t. text-is n (k + 1
     by-step none more = refl
     by-step (some step) more = ap (λ (l : List ℕ). lineText k (saidOf s step) ++ l) (more (afterStep s step))
 
-answers-of : (s : State) (steps : List Step) → answersIn (saysOf s steps) ≡ answers document01 s (callsOf s steps)
-unfolding saysOf callsOf answers saidOf afterStep
+answers-of : (s : State) (steps : List Step) → answersIn (saysOf s steps) ≡ answersOf document01 s (callsOf s steps)
+unfolding saysOf callsOf answersOf saidOf afterStep
 answers-of s [] = refl
 answers-of s (step ∷ steps) = by-call (callOf s step) (λ t. answers-of t steps)
   where
-    by-call : (o : Option Call) → ((t : State) → answersIn (saysOf t steps) ≡ answers document01 t (callsOf t steps))
-        → answersIn (saidBy s o ∷ saysOf (afterBy s o) steps) ≡ answers document01 s (callsThen s o (λ t. callsOf t steps))
+    by-call : (o : Option Call) → ((t : State) → answersIn (saysOf t steps) ≡ answersOf document01 t (callsOf t steps))
+        → answersIn (saidBy s o ∷ saysOf (afterBy s o) steps) ≡ answersOf document01 s (callsThen s o (λ t. callsOf t steps))
     by-call none more = more s
     by-call (some c) more = ap (λ (l : List (Answer Value)). made document01 s c .answer ∷ l) (more (after document01 s c))
 
@@ -127,14 +127,25 @@ is-run n s (line ∷ lines) = by-step (stepIn n line) refl (λ t. is-run n t lin
 
 -- ---- a schedule is a run
 
+shelf-within : (x : Start) → opens x ≡ true → Within (shelfOf x)
+shelf-within x can =
+    let allowed = opens-says (x .n) (x .m) (x .mode) can in
+    record {
+      desks-least = allowed .desks-least;
+      desks-most = allowed .desks-most;
+      cells-least = allowed .cells-least;
+      cells-most = allowed .cells-most;
+      modes-most = λ p l. allowed .mode-most;
+    }
+
 pub schedules-are-runs : SchedulesAreRuns
 unfolding printed
 schedules-are-runs input x lines so =
     let n : ℕ = x .n in
-    let allowed = opens-says (x .n) (x .m) (x .mode) (so .can-open) in
+    let limits = shelf-within x (so .can-open) in
     let run = is-run n (start (shelfOf x)) lines in
     record {
-      is-run = run;
+      is-run = record { within = limits; run = run };
       same-answers = answers-of (start (shelfOf x)) (stepsIn n lines);
       prints =
           ap (λ (b : Bool). cond b (text "too long\n") (linesText (linesOf input))) (so .fits)
@@ -143,14 +154,6 @@ schedules-are-runs input x lines so =
           ∙ ap (λ (b : Bool). cond b (headerText n (x .m) (modeFor (x .mode)) ++ stepsText n 1 (start (shelfOf x)) lines) badStart) (so .can-open)
           ∙ ap (λ (l : List ℕ). headerText n (x .m) (modeFor (x .mode)) ++ l) (text-is n 1 (start (shelfOf x)) lines);
       turn-rules = λ cs ds e.
-          turn-rules (shelfOf x)
-          (record {
-            desks-least = allowed .desks-least;
-            desks-most = allowed .desks-most;
-            cells-least = allowed .cells-least;
-            cells-most = allowed .cells-most;
-            modes-most = λ p l. allowed .mode-most;
-          })
-          cs
-          (run-split document01 n (start (shelfOf x)) cs ds (subst (Run document01 n (start (shelfOf x))) e run) .0);
+          turn-rules (shelfOf x) cs
+          (record { within = limits; run = run-split document01 n (start (shelfOf x)) cs ds (subst (Run document01 n (start (shelfOf x))) e run) .0 });
     }

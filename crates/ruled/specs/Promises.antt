@@ -9,7 +9,7 @@ use Rattle.answer.specs.Answer.{Answer}
 use Rattle.desk.specs.Answers.{Value}
 use Rattle.desk.specs.Calls.{modeFor, openOf}
 use Rattle.runs.specs.Calls.{Call, document01}
-use Rattle.runs.specs.Run.{State, start, after, Run, answers}
+use Rattle.runs.specs.Run.{State, start, after, answersOf, RunOn}
 use Rattle.runs.specs.TurnRules.{TurnRules}
 use Rattle.acting.specs.Step.{Step}
 use Rattle.acting.specs.Said.{Said, nothingSent, badLine}
@@ -89,8 +89,8 @@ pub record Starts (input : List ℕ) (x : Start) (lines : List Line) : Type 0 wh
 -- its steps are calls of a run of demand 3, from all desks opened once, with clear trays; what is printed are that run's answers, line by line; and
 -- the turn rules hold after each of its calls
 pub record IsARun (input : List ℕ) (x : Start) (lines : List Line) : Type 0 where
-  pub is-run : Run document01 (x .n) (start (shelfOf x)) (callsOf (start (shelfOf x)) (stepsIn (x .n) lines))
-  pub same-answers : answersIn (saysOf (start (shelfOf x)) (stepsIn (x .n) lines)) ≡ answers document01 (start (shelfOf x)) (callsOf (start (shelfOf x)) (stepsIn (x .n) lines))
+  pub is-run : RunOn document01 (shelfOf x) (callsOf (start (shelfOf x)) (stepsIn (x .n) lines))
+  pub same-answers : answersIn (saysOf (start (shelfOf x)) (stepsIn (x .n) lines)) ≡ answersOf document01 (start (shelfOf x)) (callsOf (start (shelfOf x)) (stepsIn (x .n) lines))
   pub prints : printed input
       ≡ headerText (x .n) (x .m) (modeFor (x .mode)) ++ numbered 1 (saysOf (start (shelfOf x)) (stepsIn (x .n) lines)) (endsBadly (x .n) lines)
   pub turn-rules : (cs ds : List Call) → callsOf (start (shelfOf x)) (stepsIn (x .n) lines) ≡ cs ++ ds → TurnRules document01 (shelfOf x) cs

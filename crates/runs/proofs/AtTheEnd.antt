@@ -4,33 +4,33 @@
 -- Assumes nothing.
 use Prim.Native.Nat.{ℕ, _<_}
 use mathlib.Core.Path.{_≡_, refl, sym, ap, _∙_}
-use mathlib.Core.Logic.{_⊎_, inl, inr}
-use mathlib.Core.Bool.{Bool, true, false, not, _&&_, false≢true}
+use mathlib.Core.Logic.{_≢_}
+use mathlib.Core.Bool.{true, false≢true}
 use native.Mathlib.Omega.{arith}
 use lib.Dec.{eqb}
 use lib.ListN.{length}
-use borrow.Author.Tests.{eq-eqb, lt-ltb, eqb-false, not-true}
+use borrow.Author.Tests.{eq-eqb, ne-eqb, lt-ltb, eqb-false, not-true}
 use Rattle.answer.specs.Answer.{Answer, refused, answered}
-use Rattle.answer.specs.Promises.{this, later}
-use Rattle.answer.proofs.Laws.{refused-if, refused-only-if, answered-only-if}
+use Rattle.answer.proofs.Laws.{answered-only-if}
 use Rattle.layout.specs.Layout.{trailerIn}
 use Rattle.sheet.proofs.Laws.Good.{good-trailer-is-fair}
 use Rattle.sound.specs.Head.{readWaits, waitCell}
-use Rattle.desk.specs.Answers.{held, stored, Value}
-use Rattle.desk.specs.Calls.{sound, lastTurn, trayFits, sendRules, sendOf, deliverRules, deliverOf, takeRules, takeOf, writeRules, writeOf, readRules, readOf}
+use Rattle.desk.specs.Answers.{Value}
+use Rattle.desk.specs.Calls.{lastTurn, sendOf, deliverOf, takeRules, takeOf}
 use Rattle.desk.specs.declared.Desk.{Desk}
 use Rattle.desk.proofs.Laws.Allowed.{take-allows}
-use Rattle.keeping.proofs.Laws.Rules.{never-given}
 use Rattle.runs.specs.Calls.{document01, delivers, Call, takes}
 use Rattle.runs.specs.Run.{Shelf, State, sheetNo, made, after, Possible}
 use Rattle.runs.specs.TurnRules.{turnOf, ReadWaits}
-use Rattle.runs.specs.InOrder.{SheetInOrder, DeskInOrder, InOrder}
+use Rattle.runs.specs.EveryRun.{SheetInOrder}
 use Rattle.runs.specs.AtTheEnd.{AtItsEnd, NothingBreaks, OthersGoOn}
-use Rattle.runs.proofs.InOrder.{stays-in-order}
+use Rattle.runs.proofs.Laws.InOrder.{DeskInOrder, InOrder}
+use Rattle.runs.proofs.Laws.Steps.{takenBy, step}
+use Rattle.runs.proofs.Laws.Keeps.{step-in-order}
+use Rattle.runs.proofs.Laws.Fresh.{in-order}
 use Rattle.runs.proofs.Laws.Never.{tray-fits, same-shelf}
 use Rattle.runs.proofs.Laws.Taken.{never-back}
 use Rattle.runs.proofs.Laws.Going.{going}
-use Rattle.runs.proofs.Laws.Steps.{takenBy, step}
 use Rattle.runs.proofs.Laws.Waiting.{Passes, as-it-was, by-take, passes}
 
 -- ---- what is answered there
@@ -39,36 +39,29 @@ module _ {shelf : Shelf} {s : State} (o : InOrder shelf s) (p : ℕ) (here : p <
   mine : DeskInOrder shelf (s .line) p (s .desk p) (s .tray p)
   mine = o .desks p here
 
-  no-5 : not (sound (s .desk p)) ≡ false
-  no-5 = rw (mine .as-opened .is-sound)
-
-  no-12 : not (trayFits (s .desk p) (s .tray p)) ≡ false
-  no-12 = rw (tray-fits mine)
-
   at-last : eqb (turnOf s p) lastTurn ≡ true
   at-last = eq-eqb (turnOf s p) lastTurn end
 
-  delivery : (k : ℕ) → k < length (s .line)
-      → (made document01 s (delivers p k) .answer ≡ refused 15) ⊎ (made document01 s (delivers p k) .answer ≡ refused 16)
-  unfolding deliverOf
-  delivery k l = by-sender (eqb (trailerIn (sheetNo s k .bytes) .sender) (s .desk p .head .own)) refl
-    where
-      x : SheetInOrder shelf k (sheetNo s k)
-      x = o .sheets k l
+  module _ (k : ℕ) (l : k < length (s .line)) where
+    x : SheetInOrder shelf k (sheetNo s k)
+    x = o .sheets k l
 
-      no-14 : not (eqb (trailerIn (sheetNo s k .bytes) .desks) (s .desk p .head .n) && eqb (trailerIn (sheetNo s k .bytes) .cells) (s .desk p .head .m)) ≡ false
-      no-14 = rw (same-shelf mine k x)
+    -- the desk that sent a sheet is the one that its trailer names
+    sender-is : trailerIn (sheetNo s k .bytes) .sender ≡ sheetNo s k .from
+    sender-is = x .sender ∙ sym (x .from)
 
-      by-sender : (t : Bool) → eqb (trailerIn (sheetNo s k .bytes) .sender) (s .desk p .head .own) ≡ t
-          → (made document01 s (delivers p k) .answer ≡ refused 15) ⊎ (made document01 s (delivers p k) .answer ≡ refused 16)
-      by-sender true e = inl (refused-if {rs = deliverRules (s .desk p) (s .tray p) (sheetNo s k .bytes)} held (later no-5 (later no-12 (later (rw (x .is-good)) (later no-14 (this e refl))))))
-      by-sender false e =
-          let low = lt-ltb (trailerIn (sheetNo s k .bytes) .turn) (turnOf s p) (omega (arith, end, good-trailer-is-fair (sheetNo s k .bytes) (x .is-good) .turn-most)) in
-          inr (refused-if {rs = deliverRules (s .desk p) (s .tray p) (sheetNo s k .bytes)} held (later no-5 (later no-12 (later (rw (x .is-good)) (later no-14 (later e (this low refl)))))))
+    own-delivery : sheetNo s k .from ≡ p → made document01 s (delivers p k) .answer ≡ refused 15
+    unfolding deliverOf
+    own-delivery e =
+        let own = eq-eqb (trailerIn (sheetNo s k .bytes) .sender) (s .desk p .head .own) (sender-is ∙ e ∙ sym (mine .as-opened .own)) in
+        simp (mine .as-opened .is-sound, tray-fits mine, x .is-good, same-shelf mine k x, own)
 
-  -- 10 is no rule of a write, nor of a read
-  other : {a : Bool} (j : ℕ) → eqb j 10 ≡ false → j ≡ 10 → a ≡ false
-  other j z e = absurd (eqb-false j 10 z e)
+    other-delivery : sheetNo s k .from ≢ p → made document01 s (delivers p k) .answer ≡ refused 16
+    unfolding deliverOf
+    other-delivery apart =
+        let other = ne-eqb (trailerIn (sheetNo s k .bytes) .sender) (s .desk p .head .own) (λ e. apart (sym sender-is ∙ e ∙ mine .as-opened .own)) in
+        let past = lt-ltb (trailerIn (sheetNo s k .bytes) .turn) (turnOf s p) (omega (arith, end, good-trailer-is-fair (sheetNo s k .bytes) (x .is-good) .turn-most)) in
+        simp (mine .as-opened .is-sound, tray-fits mine, x .is-good, same-shelf mine k x, other, past)
 
   -- a read that waits: nothing passes but a take, and that is refused
   no-take : (v : Value) → made document01 s (takes p) .answer ≡ answered v → ⊥
@@ -83,24 +76,21 @@ module _ {shelf : Shelf} {s : State} (o : InOrder shelf s) (p : ℕ) (here : p <
       by-pass c e (by-take same) = absurd (no-take (takenBy (s .desk p) (s .tray p)) e)
 
   at-its-end : AtItsEnd (shelf .n) s p
-  unfolding writeOf readOf sendOf takeOf
+  unfolding sendOf takeOf
   at-its-end =
       record {
-        own-send = λ own buffer. refused-if {rs = sendRules (s .desk p) buffer} _ (later no-5 (later (rw own) (this at-last refl)));
-        other-send = λ other buffer. refused-if {rs = sendRules (s .desk p) buffer} _ (later no-5 (this (rw other) refl));
-        own-take = λ own. refused-if {rs = takeRules (s .desk p) (s .tray p)} _ (later no-5 (later no-12 (this own refl)));
-        other-take = λ other. refused-if {rs = takeRules (s .desk p) (s .tray p)} _ (later no-5 (later no-12 (later other (this at-last refl))));
-        delivery = delivery;
-        write = λ cell c e.
-            never-given (refused-only-if (writeRules (s .desk p) cell c) stored 10 e)
-            (other 5 refl, λ q. (other 6 refl, λ q. (other 7 refl, λ q. (other 8 refl, λ q. tt))));
-        read = λ cell e. never-given (refused-only-if (readRules (s .desk p) cell) _ 10 e) (other 5 refl, λ q. (other 6 refl, λ q. (other 8 refl, λ q. tt)));
-        stays = λ c h. let next = stays-in-order .call shelf s c o h in omega (arith, end, never-back o p here c, next .desks p here .as-opened .fits .turn);
+        own-send = λ own buffer. simp (mine .as-opened .is-sound, own, at-last);
+        other-send = λ other buffer. simp (mine .as-opened .is-sound, other);
+        own-take = λ own. simp (mine .as-opened .is-sound, tray-fits mine, own);
+        other-take = λ other. simp (mine .as-opened .is-sound, tray-fits mine, other, at-last);
+        own-delivery = own-delivery;
+        other-delivery = other-delivery;
+        stays = λ c h. let next = step-in-order o h (step s c) in omega (arith, end, never-back o p here c, next .desks p here .as-opened .fits .turn);
         waits-on = waits-on;
       }
 
 pub nothing-breaks : NothingBreaks
-nothing-breaks shelf s o p here end = at-its-end o p here end
+nothing-breaks shelf cs r p here end = at-its-end (in-order shelf cs r) p here end
 
 pub others-go-on : OthersGoOn
-others-go-on = going
+others-go-on shelf cs r = going (in-order shelf cs r)

@@ -3,8 +3,10 @@ pub mod Shelves
 pub mod Lists
 pub mod Steps
 pub mod Line
+pub mod InOrder
 pub mod Order
 pub mod Keeps
+pub mod Fresh
 pub mod Never
 pub mod Taken
 pub mod Going

@@ -1,5 +1,4 @@
 pub mod Laws
-pub mod InOrder
+pub mod EveryRun
 pub mod TurnRules
 pub mod AtTheEnd
-pub mod TheEndComes

@@ -2,7 +2,7 @@
 --   turn-rules : Demand3 document01
 -- Assumes nothing.
 use Prim.Native.Nat.{ℕ, _+_, _%_, _≤_, _<_}
-use mathlib.Core.Path.{_≡_, sym, ap, _∙_}
+use mathlib.Core.Path.{_≡_, refl, sym, ap, _∙_}
 use mathlib.Core.Logic.{_≢_}
 use mathlib.Core.List.{List}
 use native.Mathlib.Omega.{arith}
@@ -15,14 +15,15 @@ use Rattle.desk.specs.declared.Desk.{Desk}
 use Rattle.desk.specs.Answers.{Value, waits}
 use Rattle.desk.specs.Calls.{waitingDesk}
 use Rattle.runs.specs.Calls.{Call, document01, reads}
-use Rattle.runs.specs.Run.{Shelf, Within, State, sheetNo, start, after, Run}
-use Rattle.runs.specs.InOrder.{InOrder}
-use Rattle.runs.specs.TurnRules.{now, turnOf, HasTurn, Untaken, OneTurn, OneSheet, WaitEnds, Demand3}
-use Rattle.runs.proofs.InOrder.{stays-in-order, never-comes}
+use Rattle.runs.specs.Run.{Shelf, State, sheetNo, start, after, RunOn, now}
+use Rattle.runs.specs.TurnRules.{turnOf, HasTurn, Untaken, OneTurn, OneSheet, WaitEnds, Demand3}
+use Rattle.runs.proofs.Laws.InOrder.{InOrder}
 use Rattle.runs.proofs.Laws.Cyclic.{window, Next, next}
 use Rattle.runs.proofs.Laws.Steps.{put-same, Step, is-refused, is-read, is-waiting, step}
 use Rattle.runs.proofs.Laws.Order.{desk-sound, own-last, near, turn-desk}
 use Rattle.runs.proofs.Laws.Keeps.{step-in-order}
+use Rattle.runs.proofs.Laws.Fresh.{fresh, in-order}
+use Rattle.runs.proofs.Laws.Never.{never}
 use Rattle.runs.proofs.Laws.Taken.{gone-past}
 use Rattle.runs.proofs.Laws.Going.{going}
 use Rattle.runs.proofs.Laws.Waiting.{wait-ended}
@@ -40,9 +41,9 @@ now-waits e (is-refused c k f) = absurd (refused-is-not-answered k waits e)
 now-waits e (is-read q i silent w) = absurd (let z : _≡_ {A = ℕ} 0 1 = cc in omega arith)
 now-waits {s} e (is-waiting q i silent w) = ap (λ (x : Desk). x .head .wait) (put-same (s .desk) q (waitingDesk (s .desk q) i))
 
-module _ (shelf : Shelf) (w : Within shelf) (cs : List Call) (r : Run document01 (shelf .n) (start shelf) cs) where
+module _ (shelf : Shelf) (cs : List Call) (r : RunOn document01 shelf cs) where
   o : InOrder shelf (now document01 shelf cs)
-  o = stays-in-order .run shelf (start shelf) cs (stays-in-order .fresh shelf w) r
+  o = in-order shelf cs r
 
   one-turn : OneTurn document01 shelf cs
   one-turn p q here there a b = has-turn o p here a ∙ sym (has-turn o q there b)
@@ -54,9 +55,9 @@ module _ (shelf : Shelf) (w : Within shelf) (cs : List Call) (r : Run document01
     where
       by-test : Dec (k < turnOf (now document01 shelf cs) p) → turnOf (now document01 shelf cs) p ≤ k
       by-test (yes l) =
-          let fresh = stays-in-order .fresh shelf w in
-          let none-sent = fresh .desks p here .no-further in
-          absurd (z .untaken (gone-past shelf p here (start shelf) cs fresh r k (omega (arith, none-sent)) l other))
+          let clear = fresh shelf (r .within) in
+          let none-sent = clear .desks p here .no-further in
+          absurd (z .untaken (gone-past shelf p here (start shelf) cs clear (r .run) k (omega (arith, none-sent)) l other))
       by-test (no l) = omega arith
 
   one-sheet : OneSheet document01 shelf cs
@@ -99,11 +100,11 @@ module _ (shelf : Shelf) (w : Within shelf) (cs : List Call) (r : Run document01
           desk-sound at .waits (λ none. omega (arith, none, waiting)) .elsewhere (turn-desk at ∙ ap (λ (k : ℕ). k % shelf .n) z ∙ mine .leaves ∙ sym (at .as-opened .own))
 
 pub turn-rules : Demand3 document01
-turn-rules shelf w cs r =
+turn-rules shelf cs r =
     record {
-      one-turn = one-turn shelf w cs r;
-      one-sheet = one-sheet shelf w cs r;
-      no-17 = never-comes .never-17 shelf w cs r;
-      goes-on = λ before. going shelf (now document01 shelf cs) (o shelf w cs r) 0 (w .desks-least) (before 0 (w .desks-least));
-      wait-ends = wait-ends shelf w cs r;
+      one-turn = one-turn shelf cs r;
+      one-sheet = one-sheet shelf cs r;
+      no-17 = never _ refl (in-order shelf cs r);
+      goes-on = λ before. going (in-order shelf cs r) 0 (r .within .desks-least) (before 0 (r .within .desks-least));
+      wait-ends = wait-ends shelf cs r;
     }

@@ -2,6 +2,7 @@
 -- Assumes nothing.
 use Prim.Native.Nat.{ℕ}
 use mathlib.Core.List.{List}
+use lib.ListN.{replicate}
 use Rattle.content.specs.declared.Content.{Content}
 use Rattle.desk.specs.declared.Desk.{Desk}
 use Rattle.desk.specs.Answers.{Done}
@@ -16,7 +17,8 @@ pub record Calls : Type 0 where
   pub take : Desk → List ℕ → Done
 
 -- document 01's: the definitions that the code's contracts cite (crates/desk/specs/Calls.antt). What is demanded is demanded of these;
--- crates/played/specs/Wrong.antt has calls of which it is not so
+-- crates/played/specs/Wrong.antt has calls of which it is not so. That each carries out a step of Figure 1 is `EveryCallIsAStep`
+-- (crates/figure/specs/Promises.antt); it asks `DeskFits`, which every record of a run has (`AsOpened`, specs/EveryRun.antt)
 abbrev pub document01 : Calls
 document01 =
     record {
@@ -35,3 +37,15 @@ pub data Call : Type 0 where
   sends : (desk : ℕ) (buffer : List ℕ) → Call
   delivers : (desk sheet : ℕ) → Call
   takes : (desk : ℕ) → Call
+
+-- which desk it is at
+abbrev pub deskOf : Call → ℕ
+deskOf (writes p cell c) = p
+deskOf (reads p cell) = p
+deskOf (sends p buffer) = p
+deskOf (delivers p k) = p
+deskOf (takes p) = p
+
+-- "`s` lends 396 bytes.": a buffer for a send
+unfoldable pub sheetRoom : List ℕ
+sheetRoom = replicate 396 0

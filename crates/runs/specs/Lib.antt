@@ -1,5 +1,5 @@
 pub mod Calls
 pub mod Run
 pub mod TurnRules
-pub mod InOrder
+pub mod EveryRun
 pub mod AtTheEnd

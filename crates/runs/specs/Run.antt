@@ -120,12 +120,23 @@ unfoldable pub Run : Calls → ℕ → State → List Call → Type 0
 Run calls n s [] = Unit {0}
 Run calls n s (c ∷ cs) = Possible n s c × Run calls n (after calls s c) cs
 
--- what there is after it
-unfoldable pub later : Calls → State → List Call → State
-later calls s [] = s
-later calls s (c ∷ cs) = later calls (after calls s c) cs
+-- what there is after them
+unfoldable pub afterAll : Calls → State → List Call → State
+afterAll calls s [] = s
+afterAll calls s (c ∷ cs) = afterAll calls (after calls s c) cs
 
--- what it answered
-unfoldable pub answers : Calls → State → List Call → List (Answer Value)
-answers calls s [] = []
-answers calls s (c ∷ cs) = made calls s c .answer ∷ answers calls (after calls s c) cs
+-- what they answered
+unfoldable pub answersOf : Calls → State → List Call → List (Answer Value)
+answersOf calls s [] = []
+answersOf calls s (c ∷ cs) = made calls s c .answer ∷ answersOf calls (after calls s c) cs
+
+-- ---- on a fresh shelf
+
+-- these calls are a run on this shelf: the premises of demand 3, whole
+pub record RunOn (calls : Calls) (shelf : Shelf) (cs : List Call) : Type 0 where
+  pub within : Within shelf
+  pub run : Run calls (shelf .n) (start shelf) cs
+
+-- what there is after these calls
+abbrev pub now : Calls → Shelf → List Call → State
+now calls shelf cs = afterAll calls (start shelf) cs

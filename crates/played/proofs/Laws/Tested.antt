@@ -30,12 +30,12 @@ use Rattle.applying.specs.Applying.{laid, wentOf}
 use Rattle.desk.specs.Answers.{Value, opened, stored, holds, waits, sent, held, taken}
 use Rattle.desk.specs.Calls.{openOf, writeOf, mustWait, readOf, sendOf, deliverOf, takeOf}
 use Rattle.runs.specs.Calls.{Calls, Call, writes, reads, sends, delivers, takes}
-use Rattle.runs.specs.Run.{State, start, made, put, after, Possible, Run, later, answers}
+use Rattle.runs.specs.Run.{State, start, made, put, after, Possible, Run, afterAll, answersOf}
 use Rattle.runs.specs.TurnRules.{ReadWaits, OneOf, first, further, TakesSheet, takes-it, AnswersRead, answers-it, ReadAnswered, at-this, waits-on, takeOfDesk, takesBy}
 
 -- the definitions of the calls and of a run, and those that they rest on: to unfold this is to unfold all of them
 unfoldable pub computing : Unit {0}
-unfolding answers start after later put takesBy
+unfolding answersOf start after afterAll put takesBy
     openOf writeOf mustWait readOf sendOf deliverOf takeOf
     soundOf placeAt each cells.some putIf sheetOf pendingBelow laid wentOf holdsGood heldIn clearedIn laidOver good
 computing = tt
@@ -99,9 +99,9 @@ waitsOn calls p cell s (c ∷ cs) = waitsAt p cell s && waitsOn calls p cell (af
 
 pub answered-last : (calls : Calls) (p cell : ℕ) (s : State) (cs : List Call) (c : Call)
     → waitsOn calls p cell s cs ≡ true
-    → AnswersRead calls p cell (later calls s cs) c
+    → AnswersRead calls p cell (afterAll calls s cs) c
     → ReadAnswered calls p cell s (cs ++ c ∷ [])
-unfolding later
+unfolding afterAll
 answered-last calls p cell s [] c e h = at-this (waits-at p cell s e) h
 answered-last calls p cell s (d ∷ cs) c e h =
     let t = and-split (waitsAt p cell s) (waitsOn calls p cell (after calls s d) cs) e in

@@ -7,18 +7,18 @@
 use Prim.Native.Nat.{ℕ, _*_, _%_, _≤_, _<_}
 use mathlib.Core.Path.{_≡_, refl, sym, ap, _∙_}
 use mathlib.Core.Logic.{_≢_, _⊎_, inl, inr}
-use mathlib.Core.Bool.{false, not, false≢true}
-use mathlib.Core.List.{List, [], _∷_}
+use mathlib.Core.Bool.{Bool, true, false, cond, not, false≢true}
+use mathlib.Core.List.{List}
 use mathlib.Core.Option.{Option}
 use native.Mathlib.Omega.{arith}
 use native.Mathlib.Nat.{mod-lt}
 use native.Mathlib.Decide.{ℕ-discrete, decLt}
 use lib.Dec.{eqb}
 use lib.ListN.{length}
-use borrow.Author.Tests.{eq-eqb, ne-eqb, le-ltb, not-true}
-use Rattle.answer.specs.Answer.{Answer, Rule, refused, answered}
-use Rattle.answer.specs.Promises.{First, this, later}
-use Rattle.answer.proofs.Laws.{answered-if}
+use borrow.Author.Tests.{eqb-true, eq-eqb, ne-eqb, le-ltb}
+use Rattle.answer.specs.Answer.{Answer, refused, answered}
+use Rattle.answer.specs.Promises.{First}
+use Rattle.answer.proofs.Laws.{answered-if, gives, gives-such}
 use Rattle.content.specs.declared.Content.{Content}
 use Rattle.layout.specs.Layout.{trailerIn}
 use Rattle.sound.specs.Head.{causal, turnDesk}
@@ -33,8 +33,9 @@ use Rattle.desk.specs.Calls.{lastTurn, sendRules, sendOf, deliverRules, takeRul
 use Rattle.desk.proofs.Laws.Allowed.{SendAllowed, send-if, TakeAllowed, take-if}
 use Rattle.runs.specs.Calls.{document01, delivers, takes}
 use Rattle.runs.specs.Run.{Shelf, Sheet, sheetOn, State, sheetNo, made, put, after}
-use Rattle.runs.specs.InOrder.{SheetInOrder, DeskInOrder, InOrder}
-use Rattle.runs.specs.TurnRules.{turnOf, CanSend, Arrives, is-held, is-there, CanTake}
+use Rattle.runs.specs.EveryRun.{SheetInOrder}
+use Rattle.runs.specs.TurnRules.{turnOf, CanSend, InTray, Arrives, is-held, is-there, CanTake, SomeGoesOn}
+use Rattle.runs.proofs.Laws.InOrder.{DeskInOrder, InOrder}
 use Rattle.runs.proofs.Laws.Steps.{put-same, takenBy, Step, step}
 use Rattle.runs.proofs.Laws.Steps as steps
 use Rattle.runs.proofs.Laws.Order.{own-last, turn-desk, next-held}
@@ -74,14 +75,10 @@ module _ {shelf : Shelf} {line : List Sheet} {p : ℕ} {d : Desk} {tray : List �
 
 -- ---- deliver
 
-skip : {k : ℕ} {r : Rule} {rs : List Rule} → r .applies ≡ false → First k (r ∷ rs) → First k rs
-skip off (this e n) = absurd (false≢true (sym off ∙ e))
-skip off (later e f) = f
-
 -- the next sheet, where it is delivered: it is held, or it was there before
 data Arrived (s : State) (p k : ℕ) : Answer Value → State → Type 0 where
   new : {t : State} → t .desk p ≡ s .desk p → free (t .tray p) (turnDesk (s .desk p .head)) ≡ false → Arrived s p k (answered held) t
-  old : sheetAt (s .tray p) (sheetNo s k .from) ≡ sheetNo s k .bytes → free (s .tray p) (turnDesk (s .desk p .head)) ≡ false → Arrived s p k (refused 18) s
+  old : InTray s p k → free (s .tray p) (turnDesk (s .desk p .head)) ≡ false → Arrived s p k (refused 18) s
 
 module _ {shelf : Shelf} {s : State} (o : InOrder shelf s) (p : ℕ) (here : p < shelf .n)
     (behind : turnOf s p < length (s .line)) (other : turnOf s p % shelf .n ≢ p) where
@@ -107,13 +104,19 @@ module _ {shelf : Shelf} {s : State} (o : InOrder shelf s) (p : ℕ) (here : p <
   from-is = x .from ∙ sym (turn-desk mine)
 
   -- of the rules of a delivery only 18 can apply
-  only-18 : (j : ℕ) → First j (deliverRules d (s .tray p) sheet) → (j ≡ 18) × (free (s .tray p) (trailerIn sheet .sender) ≡ false)
-  only-18 j f =
+  only-place : (such : ℕ → Bool) → gives such (deliverRules d (s .tray p) sheet) ≡ cond (not (free (s .tray p) (trailerIn sheet .sender))) (such 18) false
+  only-place such =
       let own : trailerIn sheet .sender ≢ d .head .own = λ e. other (sym (x .sender) ∙ e ∙ mine .as-opened .own) in
-      last (skip (in-reach mine k x behind) (skip (le-ltb (trailerIn sheet .turn) k (omega (arith, x .turn))) (skip (ne-eqb (trailerIn sheet .sender) (d .head .own) own) (skip (rw (same-shelf mine k x)) (skip (rw (x .is-good)) (skip (rw (tray-fits mine)) (skip (rw (mine .as-opened .is-sound)) f)))))))
+      let not-own = ne-eqb (trailerIn sheet .sender) (d .head .own) own in
+      let not-past = le-ltb (trailerIn sheet .turn) k (omega (arith, x .turn)) in
+      simp (mine .as-opened .is-sound, tray-fits mine, x .is-good, same-shelf mine k x, not-own, not-past, in-reach mine k x behind)
+
+  only-18 : (j : ℕ) → First j (deliverRules d (s .tray p) sheet) → (j ≡ 18) × (free (s .tray p) (trailerIn sheet .sender) ≡ false)
+  only-18 j f = by-place (free (s .tray p) (trailerIn sheet .sender)) refl
     where
-      last : First j ((record { number = 18; applies = not (free (s .tray p) (trailerIn sheet .sender)) }) ∷ []) → (j ≡ 18) × (free (s .tray p) (trailerIn sheet .sender) ≡ false)
-      last (this e n) = (sym n, not-true _ e)
+      by-place : (t : Bool) → free (s .tray p) (trailerIn sheet .sender) ≡ t → (j ≡ 18) × (free (s .tray p) (trailerIn sheet .sender) ≡ false)
+      by-place true e = absurd (false≢true (sym (only-place (λ i. true) ∙ rw e) ∙ gives-such (λ i. true) f))
+      by-place false e = (eqb-true j 18 (sym (gives-such (λ i. eqb i 18) f) ∙ only-place (λ i. eqb i 18) ∙ rw e), e)
 
   arrived : {a : Answer Value} {t : State} → Step s (delivers p k) a t → Arrived s p k a t
   arrived (steps.is-refused c j f) =
@@ -134,22 +137,20 @@ module _ {shelf : Shelf} {s : State} (o : InOrder shelf s) (p : ℕ) (here : p <
   after-arrival (old there full) = (refl, full)
 
   then-taken : (t : State) → InOrder shelf t → k < lastTurn → (t .desk p ≡ s .desk p) × (free (t .tray p) (turnDesk (d .head)) ≡ false)
-      → (entries applied : ℕ) × (waited : Option Content) × (made document01 t (takes p) .answer ≡ answered (taken k entries applied waited)) × (sheetAt (t .tray p) (turnDesk (t .desk p .head)) ≡ sheetNo t k .bytes)
+      → (entries applied : ℕ) × (waited : Option Content) × (made document01 t (takes p) .answer ≡ answered (taken k entries applied waited)) × InTray t p k
   unfolding takeOf
   then-taken t later-order low arrival =
       let turn : t .desk p .head .turn ≡ k = ap (λ (y : Desk). y .head .turn) (arrival .0) in
       let full : free (t .tray p) (turnDesk (t .desk p .head)) ≡ false = ap (λ (y : Desk). free (t .tray p) (turnDesk (y .head))) (arrival .0) ∙ arrival .1 in
       let silent = take-if (t .desk p) (t .tray p) (takes-now (later-order .desks p here) (rw turn low) (later-order .sheets) (rw turn other) full) in
+      let next = next-held (later-order .desks p here) full in
+      let from : sheetNo t k .from ≡ turnDesk (t .desk p .head) = later-order .sheets k (omega (arith, next .sent, turn)) .from ∙ ap (λ (j : ℕ). j % shelf .n) (sym turn) ∙ sym (turn-desk (later-order .desks p here)) in
       let y = t .desk p in
       let es = entriesTaken y (t .tray p) in
       let entries : ℕ = length es in
       let applied : ℕ = wentOf (goes (causal (y .head)) (y .pkind)) es in
       let waited : Option Content = waitedFor (y .head) (takenDesk y es) in
-      (entries, applied, waited, answered-if (takeRules y (t .tray p)) (takenBy y (t .tray p)) silent ∙ ap (λ (n : ℕ). answered (taken n entries applied waited)) turn, next-held (later-order .desks p here) full .is ∙ ap (λ (j : ℕ). sheetNo t j .bytes) turn)
-
-  same-line : {a : Answer Value} {t : State} → Step s (delivers p k) a t → sheetNo t k .bytes ≡ sheetNo s k .bytes
-  same-line (steps.is-refused c j f) = refl
-  same-line (steps.is-held q j silent) = refl
+      (entries, applied, waited, answered-if (takeRules y (t .tray p)) (takenBy y (t .tray p)) silent ∙ ap (λ (n : ℕ). answered (taken n entries applied waited)) turn, ap (sheetAt (t .tray p)) from ∙ next .is ∙ ap (λ (j : ℕ). sheetNo t j .bytes) turn)
 
   pub can-take : k < lastTurn → CanTake document01 s p
   can-take low =
@@ -161,11 +162,11 @@ module _ {shelf : Shelf} {s : State} (o : InOrder shelf s) (p : ℕ) (here : p <
         from = from-is;
         turn = x .turn;
         arrives = as-held-or-there refl arrival;
-        in-place = took .4 ∙ same-line (step s (delivers p k));
+        in-tray = took .4;
         entries = took .0;
         applied = took .1;
         waited = took .2;
-        accepted = took .3;
+        taken-then = took .3;
       }
 
 -- ---- so one of the two
@@ -187,11 +188,10 @@ module _ {shelf : Shelf} {s : State} (o : InOrder shelf s) (p : ℕ) (here : p <
 
 -- as long as one desk, q, is not at its end: where the line has not come to the last number, the desk whose turn the next sheet is can go on; where it has,
 -- q is behind it
-pub going : (shelf : Shelf) (s : State) → InOrder shelf s → (q : ℕ) → q < shelf .n → turnOf s q < lastTurn
-    → (p : ℕ) × (p < shelf .n) × (CanSend document01 s p ⊎ CanTake document01 s p)
-going shelf s o q there low = by-line (decLt (length (s .line)) lastTurn)
+pub going : {shelf : Shelf} {s : State} → InOrder shelf s → (q : ℕ) → q < shelf .n → turnOf s q < lastTurn → SomeGoesOn document01 (shelf .n) s
+going {shelf} {s} o q there low = by-line (decLt (length (s .line)) lastTurn)
   where
-    by-line : Dec (length (s .line) < lastTurn) → (p : ℕ) × (p < shelf .n) × (CanSend document01 s p ⊎ CanTake document01 s p)
+    by-line : Dec (length (s .line) < lastTurn) → SomeGoesOn document01 (shelf .n) s
     by-line (yes l) =
         let here : length (s .line) % shelf .n < shelf .n = mod-lt (length (s .line)) (omega arith) in
         (length (s .line) % shelf .n, here, one-can o _ here refl (omega (arith, o .desks _ here .no-further)))

@@ -1,4 +1,4 @@
--- Each step keeps a state in order (specs/InOrder.antt).
+-- Each step keeps a state in order (Laws/InOrder.antt).
 --   held-there                     a sheet that was delivered is in its place
 --   sender-is, number-is           who sends has the turn, and its turn number is how many were sent before
 --   step-in-order                  each step
@@ -39,7 +39,8 @@ use Rattle.keeping.proofs.Keeping.{keeps-sound, keeps-fits, numbers-stay}
 use Rattle.keeping.proofs.Laws.Sheets.{sheet-good, sheet-numbers}
 use Rattle.runs.specs.Calls.{Call}
 use Rattle.runs.specs.Run.{Shelf, Sheet, sheetOn, State, put, Possible}
-use Rattle.runs.specs.InOrder.{SheetInOrder, PlaceInOrder, is-free, holds-sheet, AsOpened, DeskInOrder, InOrder}
+use Rattle.runs.specs.EveryRun.{SheetInOrder, AsOpened}
+use Rattle.runs.proofs.Laws.InOrder.{PlaceInOrder, is-free, holds-sheet, DeskInOrder, InOrder}
 use Rattle.runs.proofs.Laws.Line.{more-long, more-same, more-last}
 use Rattle.runs.proofs.Laws.Order.{desk-sound, some-desks, own-last, turn-desk, turn-below, next-held, none-left}
 use Rattle.runs.proofs.Laws.Steps.{put-same, put-other, put-own, withDesk, sheetBy, Step, is-refused, is-stored, is-read, is-waiting, is-sent, is-held, is-taken}

@@ -8,7 +8,7 @@ use mathlib.Core.List.{List, [], _∷_, _++_}
 use native.Mathlib.Numerals.{add-one}
 use lib.ListN.{length, length-append, List·getD-append}
 use lib.Seq.{getD-append-seam}
-use Rattle.runs.specs.Run.{Sheet, sheetOn, State, after, later}
+use Rattle.runs.specs.Run.{Sheet, sheetOn, State, after, afterAll}
 use native.Mathlib.Omega.{arith}
 use Rattle.answer.specs.Answer.{Answer}
 use Rattle.desk.specs.Answers.{Value}
@@ -50,8 +50,8 @@ longer {s} (is-sent p buffer silent) =
 longer (is-held p k silent) = as-long
 longer (is-taken p silent) = as-long
 
-pub line-kept : (s : State) (cs : List Call) → Longer (s .line) (later document01 s cs .line)
-unfolding later
+pub line-kept : (s : State) (cs : List Call) → Longer (s .line) (afterAll document01 s cs .line)
+unfolding afterAll
 line-kept s [] = as-long
 line-kept s (c ∷ cs) =
     let one = longer (step s c) in

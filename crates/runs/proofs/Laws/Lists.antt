@@ -1,5 +1,5 @@
 -- Laws of lists of calls, for whatever calls a desk has.
---   later-append, answers-append, takesBy-append      calls after calls: what there is after both, what they answer, how many takes of a desk
+--   afterAll-append, answersOf-append, takesBy-append      calls after calls: what there is after both, what they answer, how many takes of a desk
 --   run-append, run-split                             they are a run exactly if the first are one, and the others are one from there on
 --   along                                             what is so of no calls, and of one call more, is so of every run
 -- Assumes nothing.
@@ -11,39 +11,39 @@ use Rattle.answer.specs.Answer.{Answer}
 use Rattle.desk.specs.Answers.{Value}
 use Rattle.runs.specs.TurnRules.{takesBy}
 use Rattle.runs.specs.Calls.{Calls, Call}
-use Rattle.runs.specs.Run.{State, made, after, Possible, Run, later, answers}
+use Rattle.runs.specs.Run.{State, made, after, Possible, Run, afterAll, answersOf}
 
-pub later-append : (calls : Calls) (s : State) (cs ds : List Call) → later calls s (cs ++ ds) ≡ later calls (later calls s cs) ds
-unfolding later
-later-append calls s [] ds = refl
-later-append calls s (c ∷ cs) ds = later-append calls (after calls s c) cs ds
+pub afterAll-append : (calls : Calls) (s : State) (cs ds : List Call) → afterAll calls s (cs ++ ds) ≡ afterAll calls (afterAll calls s cs) ds
+unfolding afterAll
+afterAll-append calls s [] ds = refl
+afterAll-append calls s (c ∷ cs) ds = afterAll-append calls (after calls s c) cs ds
 
-pub run-append : (calls : Calls) (n : ℕ) (s : State) (cs ds : List Call) → Run calls n s cs → Run calls n (later calls s cs) ds → Run calls n s (cs ++ ds)
-unfolding Run later
+pub run-append : (calls : Calls) (n : ℕ) (s : State) (cs ds : List Call) → Run calls n s cs → Run calls n (afterAll calls s cs) ds → Run calls n s (cs ++ ds)
+unfolding Run afterAll
 run-append calls n s [] ds r q = q
 run-append calls n s (c ∷ cs) ds r q = (r .0, run-append calls n (after calls s c) cs ds (r .1) q)
 
-pub run-split : (calls : Calls) (n : ℕ) (s : State) (cs ds : List Call) → Run calls n s (cs ++ ds) → Run calls n s cs × Run calls n (later calls s cs) ds
-unfolding Run later
+pub run-split : (calls : Calls) (n : ℕ) (s : State) (cs ds : List Call) → Run calls n s (cs ++ ds) → Run calls n s cs × Run calls n (afterAll calls s cs) ds
+unfolding Run afterAll
 run-split calls n s [] ds r = (tt, r)
 run-split calls n s (c ∷ cs) ds r = let rest = run-split calls n (after calls s c) cs ds (r .1) in ((r .0, rest .0), rest .1)
 
-pub answers-append : (calls : Calls) (s : State) (cs ds : List Call) → answers calls s (cs ++ ds) ≡ answers calls s cs ++ answers calls (later calls s cs) ds
-unfolding answers later
-answers-append calls s [] ds = refl
-answers-append calls s (c ∷ cs) ds = ap (λ (l : List (Answer Value)). made calls s c .answer ∷ l) (answers-append calls (after calls s c) cs ds)
+pub answersOf-append : (calls : Calls) (s : State) (cs ds : List Call) → answersOf calls s (cs ++ ds) ≡ answersOf calls s cs ++ answersOf calls (afterAll calls s cs) ds
+unfolding answersOf afterAll
+answersOf-append calls s [] ds = refl
+answersOf-append calls s (c ∷ cs) ds = ap (λ (l : List (Answer Value)). made calls s c .answer ∷ l) (answersOf-append calls (after calls s c) cs ds)
 
-pub takesBy-append : (calls : Calls) (p : ℕ) (s : State) (cs ds : List Call) → takesBy calls p s (cs ++ ds) ≡ takesBy calls p s cs + takesBy calls p (later calls s cs) ds
-unfolding takesBy later
+pub takesBy-append : (calls : Calls) (p : ℕ) (s : State) (cs ds : List Call) → takesBy calls p s (cs ++ ds) ≡ takesBy calls p s cs + takesBy calls p (afterAll calls s cs) ds
+unfolding takesBy afterAll
 takesBy-append calls p s [] ds = omega arith
 takesBy-append calls p s (c ∷ cs) ds = omega (arith, takesBy-append calls p (after calls s c) cs ds)
 
 -- what is so of no calls, and of one call more whenever it is so before it, is so of every run
 pub along : (calls : Calls) (n : ℕ) (s : State) (P : List Call → State → Type 0)
     → P [] s
-    → ((cs : List Call) (c : Call) → Run calls n s cs → P cs (later calls s cs) → Possible n (later calls s cs) c → P (cs ++ c ∷ []) (after calls (later calls s cs) c))
-    → (cs : List Call) → Run calls n s cs → P cs (later calls s cs)
-unfolding Run later
+    → ((cs : List Call) (c : Call) → Run calls n s cs → P cs (afterAll calls s cs) → Possible n (afterAll calls s cs) c → P (cs ++ c ∷ []) (after calls (afterAll calls s cs) c))
+    → (cs : List Call) → Run calls n s cs → P cs (afterAll calls s cs)
+unfolding Run afterAll
 along calls n s P none one [] r = none
 along calls n s P none one (c ∷ cs) r =
     along calls n (after calls s c) (λ ds t. P (c ∷ ds) t) (one [] c tt none (r .0)) (λ ds d q h possible. one (c ∷ ds) d (r .0, q) h possible) cs (r .1)

@@ -1,31 +1,30 @@
--- The refusals that never come where all is in order (specs/InOrder.antt).
+-- The refusals that never come where all is in order (Laws/InOrder.antt).
 --   tray-fits, same-shelf, in-reach      tests that pass
 --   next-is-next          what the place of the desk whose turn it is holds passes the test of a take
 --   barred, never         none of the six numbers comes
 -- Assumes nothing.
 use Prim.Native.Nat.{ℕ, _+_, _*_, _<_}
-use mathlib.Core.Path.{_≡_, refl, sym, ap, _∙_, subst}
+use mathlib.Core.Path.{_≡_, refl, sym, ap, _∙_}
 use mathlib.Core.Logic.{_≢_}
-use mathlib.Core.Bool.{Bool, true, false, not, _&&_, _||_, false≢true}
+use mathlib.Core.Bool.{Bool, true, false, _&&_, _||_, false≢true}
 use mathlib.Core.List.{List}
 use native.Mathlib.Omega.{arith}
 use lib.Dec.{eqb, leb}
 use lib.ListN.{length}
 use borrow.Author.Tests.{eq-eqb, lt-leb}
 use Rattle.answer.specs.Answer.{Answer, refused}
-use Rattle.answer.specs.Promises.{First}
-use Rattle.answer.proofs.Laws.{refused-is-not-answered}
+use Rattle.answer.proofs.Laws.{refused-is-not-answered, gives, gives-such, either-way}
 use Rattle.layout.specs.Layout.{trailerIn, numbersOf}
 use Rattle.sound.specs.Head.{turnDesk}
-use Rattle.tray.specs.Tray.{free, sheetAt, holdsGood}
+use Rattle.tray.specs.Tray.{free, sheetAt}
 use Rattle.desk.specs.declared.Desk.{Desk}
 use Rattle.desk.specs.Answers.{Value}
-use Rattle.desk.specs.Calls.{sound, trayFits, isNext}
+use Rattle.desk.specs.Calls.{trayFits}
 use Rattle.desk.proofs.Laws.Next.{Next, next-if}
-use Rattle.keeping.proofs.Laws.Rules.{Off, never-given}
 use Rattle.runs.specs.Calls.{Call, document01, writes, reads, sends, delivers, takes}
 use Rattle.runs.specs.Run.{Shelf, Sheet, sheetOn, State, made, Possible}
-use Rattle.runs.specs.InOrder.{SheetInOrder, DeskInOrder, InOrder}
+use Rattle.runs.specs.EveryRun.{SheetInOrder}
+use Rattle.runs.proofs.Laws.InOrder.{DeskInOrder, InOrder}
 use Rattle.runs.proofs.Laws.Order.{near, turn-desk, next-held}
 use Rattle.runs.proofs.Laws.Steps.{rulesOf, Step, is-refused, is-stored, is-read, is-waiting, is-sent, is-held, is-taken, step}
 
@@ -57,47 +56,37 @@ module _ {shelf : Shelf} {line : List Sheet} {p : ℕ} {d : Desk} {tray : List �
 abbrev pub barred : ℕ → Bool
 barred k = eqb k 5 || eqb k 12 || eqb k 13 || eqb k 14 || eqb k 17 || eqb k 21
 
-module _ (shelf : Shelf) (s : State) (o : InOrder shelf s) (k : ℕ) (b : barred k ≡ true) where
-  -- a number that is not among them
-  other : {A : Type 0} (j : ℕ) → barred j ≡ false → j ≡ k → A
-  other j z e = absurd (false≢true (sym z ∙ ap barred e ∙ b))
-
-  module _ {p : ℕ} (here : p < shelf .n) where
-    no-5 : not (sound (s .desk p)) ≡ false
-    no-5 = rw (o .desks p here .as-opened .is-sound)
-
-    no-12 : not (trayFits (s .desk p) (s .tray p)) ≡ false
-    no-12 = rw (tray-fits (o .desks p here))
-
-    no-21 : free (s .tray p) (turnDesk (s .desk p .head)) ≡ false
-        → not (holdsGood (s .tray p) (turnDesk (s .desk p .head)) && isNext (s .desk p .head) (numbersOf (trailerIn (sheetAt (s .tray p) (turnDesk (s .desk p .head)))))) ≡ false
-    no-21 f =
-        let mine = o .desks p here in
-        rw (next-held mine f .holds-good, next-if (s .desk p .head) _ (next-is-next mine (o .sheets) f))
-
-  off : (c : Call) → Possible (shelf .n) s c → Off k (rulesOf s c)
-  off (writes p cell c) here =
-      (λ e. no-5 (here .0), λ q. (other 6 refl, λ q. (other 7 refl, λ q. (other 8 refl, λ q. tt))))
-  off (reads p cell) here = (λ e. no-5 here, λ q. (other 6 refl, λ q. (other 8 refl, λ q. tt)))
-  off (sends p buffer) here =
-      (λ e. no-5 here, λ q. (other 9 refl, λ q. (other 10 refl, λ q. (other 11 refl, λ q. tt))))
+module _ {shelf : Shelf} {s : State} (o : InOrder shelf s) where
+  -- no call gives one of them
+  off : (c : Call) → Possible (shelf .n) s c → gives barred (rulesOf s c) ≡ false
+  off (writes p cell c) here = simp (o .desks p (here .0) .as-opened .is-sound, either-way)
+  off (reads p cell) here = simp (o .desks p here .as-opened .is-sound, either-way)
+  off (sends p buffer) here = simp (o .desks p here .as-opened .is-sound, either-way)
   off (delivers p j) here =
+      let mine = o .desks p (here .0) in
       let x = o .sheets j (here .1) in
-      (λ e. no-5 (here .0), λ q. (λ e. no-12 (here .0), λ q. (λ e. rw (x .is-good), λ q. (λ e. rw (same-shelf (o .desks p (here .0)) j x), λ q. (other 15 refl, λ q. (other 16 refl, λ q. (λ e. in-reach (o .desks p (here .0)) j x (here .1), λ q. (other 18 refl, λ q. tt))))))))
-  off (takes p) here =
-      (λ e. no-5 here, λ q. (λ e. no-12 here, λ q. (other 19 refl, λ q. (other 10 refl, λ q. (other 20 refl, λ f. (λ e. no-21 here f, λ q. tt))))))
+      simp (mine .as-opened .is-sound, tray-fits mine, x .is-good, same-shelf mine j x, in-reach mine j x (here .1), either-way)
+  off (takes p) here = by-place (free (s .tray p) (turnDesk (s .desk p .head))) refl
+    where
+      mine : DeskInOrder shelf (s .line) p (s .desk p) (s .tray p)
+      mine = o .desks p here
+
+      by-place : (t : Bool) → free (s .tray p) (turnDesk (s .desk p .head)) ≡ t → gives barred (rulesOf s (takes p)) ≡ false
+      by-place true f = simp (mine .as-opened .is-sound, tray-fits mine, f, either-way)
+      by-place false f =
+          simp (mine .as-opened .is-sound, tray-fits mine, f, next-held mine f .holds-good, next-if (s .desk p .head) _ (next-is-next mine (o .sheets) f), either-way)
 
   same-number : (i j : ℕ) → _≡_ {A = Answer Value} (refused i) (refused j) → i ≡ j
   same-number i j e = cc
 
-  not-in : {c : Call} {a : Answer Value} {t : State} → Possible (shelf .n) s c → Step s c a t → a ≢ refused k
-  not-in here (is-refused c j first) e = never-given (subst (λ (i : ℕ). First i (rulesOf s c)) (same-number j k e) first) (off c here)
-  not-in here (is-stored p cell c silent) e = refused-is-not-answered _ _ (sym e)
-  not-in here (is-read p cell silent w) e = refused-is-not-answered _ _ (sym e)
-  not-in here (is-waiting p cell silent w) e = refused-is-not-answered _ _ (sym e)
-  not-in here (is-sent p buffer silent) e = refused-is-not-answered _ _ (sym e)
-  not-in here (is-held p j silent) e = refused-is-not-answered _ _ (sym e)
-  not-in here (is-taken p silent) e = refused-is-not-answered _ _ (sym e)
+  not-in : (k : ℕ) → barred k ≡ true → {c : Call} {a : Answer Value} {t : State} → Possible (shelf .n) s c → Step s c a t → a ≢ refused k
+  not-in k b here (is-refused c j first) e = false≢true (sym (off c here) ∙ gives-such barred first ∙ ap barred (same-number j k e) ∙ b)
+  not-in k b here (is-stored p cell c silent) e = refused-is-not-answered _ _ (sym e)
+  not-in k b here (is-read p cell silent w) e = refused-is-not-answered _ _ (sym e)
+  not-in k b here (is-waiting p cell silent w) e = refused-is-not-answered _ _ (sym e)
+  not-in k b here (is-sent p buffer silent) e = refused-is-not-answered _ _ (sym e)
+  not-in k b here (is-held p j silent) e = refused-is-not-answered _ _ (sym e)
+  not-in k b here (is-taken p silent) e = refused-is-not-answered _ _ (sym e)
 
-pub never : (k : ℕ) → barred k ≡ true → (shelf : Shelf) (s : State) (c : Call) → InOrder shelf s → Possible (shelf .n) s c → made document01 s c .answer ≢ refused k
-never k b shelf s c o here = not-in shelf s o k b here (step s c)
+pub never : {shelf : Shelf} {s : State} (k : ℕ) → barred k ≡ true → InOrder shelf s → (c : Call) → Possible (shelf .n) s c → made document01 s c .answer ≢ refused k
+never {s = s} k b o c here = not-in o k b here (step s c)

@@ -1,4 +1,4 @@
--- Laws of a desk in order (specs/InOrder.antt).
+-- Laws of a desk in order (Laws/InOrder.antt).
 --   desk-sound, some-desks, turn-desk, turn-below      its record is sound, there are desks, and which has the turn
 --   own-last                                           a desk whose turn it is has got as far as the line
 --   near                                               all sheets sent are below a desk's turn number + n: its next sheet of its own is not sent
@@ -18,7 +18,7 @@ use Rattle.tray.specs.Tray.{free, sheetAt, holdsGood}
 use Rattle.desk.specs.declared.Desk.{Desk}
 use Rattle.desk.proofs.Laws.Allowed.{SoundDesk, desk-says}
 use Rattle.runs.specs.Run.{Shelf, Sheet, sheetOn}
-use Rattle.runs.specs.InOrder.{PlaceInOrder, is-free, holds-sheet, DeskInOrder}
+use Rattle.runs.proofs.Laws.InOrder.{PlaceInOrder, is-free, holds-sheet, DeskInOrder}
 use Rattle.runs.proofs.Laws.Cyclic.{window, Next, next}
 
 -- ---- a desk in order

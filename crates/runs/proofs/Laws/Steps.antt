@@ -1,7 +1,7 @@
 -- What a call of document 01 comes to on a state, case by case: it is refused and nothing changes, or no rule applies and the next state is
 -- written out. Whatever is proved of all runs goes by these cases.
 --   put-same, put-other, put-own             a state with one desk's record, or tray, replaced
---   deskOf, own-record, other-record         whose call it is: that desk's next record, and that the others keep theirs
+--   own-record, other-record                 whose call it is: that desk's next record, and that the others keep theirs
 --   rulesOf, withDesk, sheetBy, takenBy      a call's rules; a state, a sheet and an answer that the cases speak of
 --   by-call                                  what is so of a refused call, and of one that no rule applies to, is so of a call
 --   Step, step                               the cases, and that each call is one of them
@@ -29,7 +29,7 @@ use Rattle.applying.specs.Applying.{goes, wentOf}
 use Rattle.desk.specs.declared.Desk.{Desk}
 use Rattle.desk.specs.Answers.{Value, stored, holds, waits, sent, held, taken, Done, call}
 use Rattle.desk.specs.Calls.{writeRules, writtenDesk, writeOf, readRules, mustWait, waitingDesk, readOf, sendRules, sentDesk, sendOf, deliverRules, deliverOf, takeRules, entriesTaken, takenDesk, waitedFor, takeOf}
-use Rattle.runs.specs.Calls.{Calls, Call, document01, writes, reads, sends, delivers, takes}
+use Rattle.runs.specs.Calls.{Calls, Call, document01, writes, reads, sends, delivers, takes, deskOf}
 use Rattle.runs.specs.Run.{Sheet, State, sheetNo, made, put, sheetLeft, after}
 
 -- ---- one desk's
@@ -52,13 +52,6 @@ module _ {A : Type 0} (f : ℕ → A) (p : ℕ) where
       by-test q false e = rw e
 
 -- ---- whose call it is
-
-abbrev pub deskOf : Call → ℕ
-deskOf (writes p cell c) = p
-deskOf (reads p cell) = p
-deskOf (sends p buffer) = p
-deskOf (delivers p k) = p
-deskOf (takes p) = p
 
 module _ (calls : Calls) (s : State) where
   pub own-record : (c : Call) → after calls s c .desk (deskOf c) ≡ made calls s c .desk

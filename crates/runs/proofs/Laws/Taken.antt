@@ -18,9 +18,9 @@ use Rattle.desk.specs.Answers.{Value}
 use Rattle.desk.specs.Calls.{writtenDesk, waitingDesk, sentDesk, takeRules, entriesTaken, takenDesk}
 use Rattle.desk.proofs.Laws.Allowed.{take-allows}
 use Rattle.runs.specs.Calls.{Call, document01, sends, takes}
-use Rattle.runs.specs.Run.{Shelf, State, made, put, after, Possible, Run, later}
-use Rattle.runs.specs.InOrder.{InOrder}
+use Rattle.runs.specs.Run.{Shelf, State, made, put, after, Possible, Run, afterAll}
 use Rattle.runs.specs.TurnRules.{turnOf, OneOf, first, further, TakesSheet, takes-it}
+use Rattle.runs.proofs.Laws.InOrder.{InOrder}
 use Rattle.runs.proofs.Laws.Steps.{put-same, put-other, sheetBy, Step, is-refused, is-stored, is-read, is-waiting, is-sent, is-held, is-taken, step}
 use Rattle.runs.proofs.Laws.Order.{next-held}
 use Rattle.runs.proofs.Laws.Keeps.{sender-is, step-in-order}
@@ -80,9 +80,9 @@ module _ {shelf : Shelf} {s : State} (o : InOrder shelf s) (p : ℕ) (here : p <
 -- ---- a list of calls
 
 pub gone-past : (shelf : Shelf) (p : ℕ) → p < shelf .n → (s : State) (cs : List Call) → InOrder shelf s → Run document01 (shelf .n) s cs
-    → (k : ℕ) → turnOf s p ≤ k → k < turnOf (later document01 s cs) p → k % shelf .n ≢ p
+    → (k : ℕ) → turnOf s p ≤ k → k < turnOf (afterAll document01 s cs) p → k % shelf .n ≢ p
     → OneOf document01 (TakesSheet document01 p k) s cs
-unfolding Run later
+unfolding Run afterAll
 gone-past shelf p here s [] o r k least most other = absurd (omega arith)
 gone-past shelf p here s (c ∷ cs) o r k least most other =
     by-move c (r .0) (moves o p here refl (step s c)) (λ l. further (gone-past shelf p here (after document01 s c) cs (step-in-order o (r .0) (step s c)) (r .1) k l most other))

@@ -12,7 +12,7 @@ use native.Mathlib.Omega.{arith}
 use native.Mathlib.Decide.{ℕ-discrete}
 use lib.ListN.{length}
 use borrow.Author.Tests.{eqb-true, eq-eqb, ne-eqb}
-use Rattle.answer.specs.Answer.{Answer, answered}
+use Rattle.answer.specs.Answer.{Answer, answered, accepted}
 use Rattle.content.specs.declared.Content.{Content}
 use Rattle.layout.specs.declared.Entry.{Entry}
 use Rattle.cells.specs.Cells.{contentAt}
@@ -25,8 +25,8 @@ use Rattle.desk.specs.Calls.{readEnds, writtenDesk, waitingDesk, sentDesk, entr
 use Rattle.desk.proofs.Laws.Allowed.{write-allows, read-allows, send-allows}
 use Rattle.runs.specs.Calls.{Call, document01, takes}
 use Rattle.runs.specs.Run.{Shelf, State, made, put, after, Run}
-use Rattle.runs.specs.InOrder.{InOrder}
-use Rattle.runs.specs.TurnRules.{turnOf, takeOfDesk, accepted, takesBy, ReadWaits, AnswersRead, answers-it, ReadAnswered, at-this, waits-on}
+use Rattle.runs.specs.TurnRules.{turnOf, takeOfDesk, takesBy, ReadWaits, AnswersRead, answers-it, ReadAnswered, at-this, waits-on}
+use Rattle.runs.proofs.Laws.InOrder.{InOrder}
 use Rattle.runs.proofs.Laws.Steps.{put-same, put-other, takenBy, Step, is-refused, is-stored, is-read, is-waiting, is-sent, is-held, is-taken, step}
 use Rattle.runs.proofs.Laws.Order.{desk-sound}
 use Rattle.runs.proofs.Laws.Keeps.{step-in-order}

@@ -1,8 +1,6 @@
--- A fresh shelf is in order, every call keeps it so, and so it is after every run: specs/InOrder.antt.
---   stays-in-order : RunsStayInOrder
---   not-far-ahead : NotFarAhead
---   records-are-sound : RecordsAreSound
---   never-comes : NeverComes
+-- A fresh shelf is in order, and so is what there is after every run.
+--   opens, fresh      every open is carried out, and all is in order then
+--   in-order          after a run, too
 -- Assumes nothing.
 use Prim.Native.Nat.{ℕ, zero, suc, _+_, _*_, _<_}
 use mathlib.Core.Path.{_≡_, refl, ap}
@@ -23,13 +21,11 @@ use Rattle.desk.specs.Calls.{openRules, modeFor, blankDesk, freshHead, openOf}
 use Rattle.desk.proofs.Laws.Allowed.{open-if}
 use Rattle.keeping.proofs.Keeping.{open-is-sound}
 use Rattle.runs.specs.Calls.{Call, document01}
-use Rattle.runs.specs.Run.{Shelf, Within, State, start, after, Possible, Run, later}
-use Rattle.runs.specs.InOrder.{is-free, DeskInOrder, InOrder, RunsStayInOrder, NotFarAhead, RecordsAreSound, Never, NeverComes}
+use Rattle.runs.specs.Run.{Shelf, Within, start, RunOn, now, afterAll}
+use Rattle.runs.proofs.Laws.InOrder.{is-free, DeskInOrder, InOrder}
 use Rattle.runs.proofs.Laws.Lists.{along}
 use Rattle.runs.proofs.Laws.Steps.{step}
-use Rattle.runs.proofs.Laws.Order.{near}
 use Rattle.runs.proofs.Laws.Keeps.{step-in-order}
-use Rattle.runs.proofs.Laws.Never.{barred, never}
 
 -- ---- a clear tray
 
@@ -56,7 +52,7 @@ module _ (shelf : Shelf) (w : Within shelf) (p : ℕ) (here : p < shelf .n) wher
         mode-most = w .modes-most p here;
       })
 
-  opens : openOf (shelf .n) (shelf .m) p (shelf .mode p) .answer ≡ answered opened
+  pub opens : openOf (shelf .n) (shelf .m) p (shelf .mode p) .answer ≡ answered opened
   unfolding openOf
   opens = answered-if (openRules (shelf .n) (shelf .m) p (shelf .mode p)) opened allowed
 
@@ -82,40 +78,13 @@ module _ (shelf : Shelf) (w : Within shelf) (p : ℕ) (here : p < shelf .n) wher
         places = λ q l. is-free (clear-free (398 * shelf .n) q);
       }
 
-fresh : (shelf : Shelf) → Within shelf → InOrder shelf (start shelf)
+pub fresh : (shelf : Shelf) → Within shelf → InOrder shelf (start shelf)
 unfolding start
 fresh shelf w = record { sheets = λ k l. absurd (omega arith); desks = fresh-desk shelf w }
 
--- ---- calls
+-- ---- a run
 
-call-in-order : (shelf : Shelf) (s : State) (c : Call) → InOrder shelf s → Possible (shelf .n) s c → InOrder shelf (after document01 s c)
-call-in-order shelf s c o here = step-in-order o here (step s c)
-
-run-in-order : (shelf : Shelf) (s : State) (cs : List Call) → InOrder shelf s → Run document01 (shelf .n) s cs → InOrder shelf (later document01 s cs)
-run-in-order shelf s cs o =
-    along document01 (shelf .n) s (λ cs t. InOrder shelf t) o (λ cs c r before here. call-in-order shelf (later document01 s cs) c before here) cs
-
-pub stays-in-order : RunsStayInOrder
-stays-in-order = record { opens = opens; fresh = fresh; call = call-in-order; run = run-in-order }
-
-pub not-far-ahead : NotFarAhead
-not-far-ahead shelf s o p here k sent = omega (arith, near (o .desks p here))
-
-pub records-are-sound : RecordsAreSound
-records-are-sound shelf w cs r p here = run-in-order shelf (start shelf) cs (fresh shelf w) r .desks p here .as-opened .is-sound
-
--- ---- the refusals that never come
-
-never-in-a-run : (k : ℕ) → barred k ≡ true → Never k
-never-in-a-run k b shelf w cs r c here = never k b shelf (later document01 (start shelf) cs) c (run-in-order shelf (start shelf) cs (fresh shelf w) r) here
-
-pub never-comes : NeverComes
-never-comes =
-    record {
-      never-5 = never-in-a-run 5 refl;
-      never-12 = never-in-a-run 12 refl;
-      never-13 = never-in-a-run 13 refl;
-      never-14 = never-in-a-run 14 refl;
-      never-17 = never-in-a-run 17 refl;
-      never-21 = never-in-a-run 21 refl;
-    }
+pub in-order : (shelf : Shelf) (cs : List Call) → RunOn document01 shelf cs → InOrder shelf (now document01 shelf cs)
+in-order shelf cs r =
+    along document01 (shelf .n) (start shelf) (λ cs s. InOrder shelf s) (fresh shelf (r .within))
+    (λ cs c before o here. step-in-order o here (step (afterAll document01 (start shelf) cs) c)) cs (r .run)
