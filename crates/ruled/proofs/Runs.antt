@@ -27,9 +27,9 @@ use Rattle.acting.specs.Step as spec
 use Rattle.schedule.specs.Lines.{Line, linesOf}
 use Rattle.schedule.specs.Start.{Start}
 use Rattle.schedule.specs.Step.{stepIn}
-use Rattle.schedule.specs.Promises.{Fair}
-use Rattle.schedule.proofs.Laws.Promised.{steps-are-fair}
 use Rattle.printing.specs.Printing.{lineText, headerText}
+use Rattle.lines.specs.Promises.{StepInRange}
+use Rattle.lines.proofs.Steps.{steps-are-in-range}
 use Rattle.play.specs.Steps.{latestFrom, latestOf, deliversLatest, callBy, callOf, saidBy, saidOf, afterBy, afterStep}
 use Rattle.play.specs.Rounds.{stepText, stepsText, shelfOf, opens, badStart, runText, linesText, printed}
 use Rattle.ruled.specs.Promises.{FirstAsAll, stepsThen, stepsIn, endsThen, endsBadly, callsThen, callsOf, saysOf, numbered, answersIn, SchedulesAreRuns}
@@ -109,8 +109,8 @@ module _ (n : ℕ) (s : State) where
       by-latest p l (latestOf q (s .line)) (subst (within (latestFrom q 0 none (s .line))) all (there-from q 0 none (s .line) tt))
   by-act p spec.takes l day = l
 
-  next-is : (step : Step) → Fair n step → Next n s (callOf s step)
-  next-is step fair = by-act (step .desk) (step .act) (fair .desk) (fair .day)
+  next-is : (step : Step) → StepInRange n step → Next n s (callOf s step)
+  next-is step range = by-act (step .desk) (step .act) (range .desk) (range .day)
 
 is-run : (n : ℕ) (s : State) (lines : List Line) → Run document01 n s (callsOf s (stepsIn n lines))
 unfolding Run callsOf stepsIn
@@ -123,7 +123,7 @@ is-run n s (line ∷ lines) = by-step (stepIn n line) refl (λ t. is-run n t lin
 
     by-step : (o : Option Step) → stepIn n line ≡ o → ((t : State) → Run document01 n t (callsOf t (stepsIn n lines))) → Run document01 n s (callsOf s (stepsThen o (stepsIn n lines)))
     by-step none e more = tt
-    by-step (some step) e more = by-call (callOf s step) (next-is n s step (steps-are-fair n line step e)) more
+    by-step (some step) e more = by-call (callOf s step) (next-is n s step (steps-are-in-range n line step e)) more
 
 -- ---- a schedule is a run
 

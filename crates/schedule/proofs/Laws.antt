@@ -3,6 +3,3 @@ pub mod Contents
 pub mod Lines
 pub mod Start
 pub mod Reading
-pub mod Steps
-pub mod Saying
-pub mod Promised

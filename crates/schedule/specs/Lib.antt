@@ -3,4 +3,3 @@ pub mod Words
 pub mod Start
 pub mod Step
 pub mod Parts
-pub mod Promises

@@ -23,7 +23,7 @@ use Rattle.acting.specs.Step as spec
 use Rattle.schedule.specs.Lines.{Line, ended, cut, linesOf}
 use Rattle.schedule.specs.Step.{stepIn}
 use Rattle.schedule.proofs.Laws.Lines.{no-lines, line-taken, line-ended, line-cut}
-use Rattle.schedule.proofs.Laws.Steps.{no-step-of-cut}
+use Rattle.lines.proofs.Steps.{no-step-of-cut}
 use Rattle.play.specs.Rounds.{stepText, stepsText}
 use Rattle.play.specs.Parts.Making.{SenderThere}
 use Rattle.play.specs.Parts.Running.{stepAt, nextAt}

@@ -28,8 +28,8 @@ use Rattle.acting.specs.declared.Step as declared
 use Rattle.acting.specs.Step.{Step, saidStep, DeskIfBad}
 use Rattle.acting.specs.Said.{Said, saying}
 use Rattle.schedule.specs.Lines.{Line, ended, linesOf}
-use Rattle.schedule.proofs.Laws.Steps.{desk-is-there, sender-is-there}
 use Rattle.printing.specs.Printing.{Wrote, wrote, lineText}
+use Rattle.lines.proofs.Steps.{steps-are-in-range}
 use Rattle.play.specs.Steps.{afterStep}
 use Rattle.play.specs.Rounds.{stepText, stepsText}
 use Rattle.play.specs.Parts.Making.{making, makeOf, saidFor, SenderThere}
@@ -130,7 +130,7 @@ module _ (input : List ℕ) (from n m mode : ℕ) (out₀ : List ℕ) (at : ℕ)
           by-step none e = omega (arith, idle p end (length input) a (says ∙ e) .desk-is if-bad, so .some-desks)
           by-step (some st) e =
               let d = does p end (length input) a st (says ∙ e) in
-              let l = desk-is-there n (ended (take (end - i) (drop i input))) st (behind n input i end before ends st e .says) in
+              let l = steps-are-in-range n (ended (take (end - i) (drop i input))) st (behind n input i end before ends st e .says) .desk in
               omega (arith, d .desk-is)
 
       pub desk-few : p < 16
@@ -147,7 +147,7 @@ module _ (input : List ℕ) (from n m mode : ℕ) (out₀ : List ℕ) (at : ℕ)
           by-step none e = idle p end (length input) a (says ∙ e) .sender n
           by-step (some st) e =
               does p end (length input) a st (says ∙ e) .sender n
-              (sender-is-there n (ended (take (end - i) (drop i input))) st (behind n input i end before ends st e .says))
+              (steps-are-in-range n (ended (take (end - i) (drop i input))) st (behind n input i end before ends st e .says) .sender)
 
       pub sender-few : SenderThere 16 a
       sender-few = wider a sender-there

@@ -1,18 +1,13 @@
--- The promises of specs/Promises.antt.
---   steps-are-fair : StepsAreFair
---   each-form-reads : EachForm, edges-read : AtTheEdges, other-forms : OtherForms, each by computing
+-- Lines as 01 writes them (specs/Samples.antt), each by computing.
+--   each-form-reads : EachForm, edges-read : AtTheEdges, other-forms : OtherForms, other-starts : OtherStarts
 -- Assumes nothing.
 use mathlib.Core.Path.{refl}
 use Rattle.text.specs.Parts.{parts}
 use Rattle.text.specs.Decimal.{isDecimal, valueFrom, value}
 use Rattle.schedule.specs.Words.{is, isNumber, isDesk, isDay, dayIn, isContent, contentIn}
 use Rattle.schedule.specs.Start.{isMode, modeIn, startIn}
 use Rattle.schedule.specs.Step.{stepIn}
-use Rattle.schedule.specs.Promises.{StepsAreFair, EachForm, AtTheEdges, OtherForms}
-use Rattle.schedule.proofs.Laws.Steps.{fair}
-
-pub steps-are-fair : StepsAreFair
-steps-are-fair n l step says = fair n step l says
+use Rattle.lines.specs.Samples.{EachForm, AtTheEdges, OtherForms, OtherStarts}
 
 pub each-form-reads : EachForm
 unfolding parts isDecimal valueFrom value is isNumber isDesk isDay dayIn isContent contentIn isMode modeIn startIn stepIn
@@ -20,7 +15,8 @@ each-form-reads = record { start = refl; step-1 = refl; step-2 = refl; step-4 = 
 
 pub edges-read : AtTheEdges
 unfolding parts isDecimal valueFrom value is isNumber isDesk isDay dayIn isContent contentIn isMode modeIn startIn stepIn
-edges-read = record { greatest-cell = refl; greatest-day = refl; least-day = refl; default-mode = refl }
+edges-read =
+    record { greatest-cell = refl; greatest-day = refl; least-day = refl; greatest-start = refl; least-start = refl; default-mode = refl }
 
 pub other-forms : OtherForms
 unfolding parts isDecimal valueFrom value is isNumber isDesk isDay dayIn isContent contentIn stepIn
@@ -40,6 +36,21 @@ other-forms =
       day-beyond = refl;
       day-below = refl;
       blank-is-no-word = refl;
+      capital-letter = refl;
+      no-line-feed = refl;
+    }
+
+pub other-starts : OtherStarts
+unfolding parts isDecimal valueFrom value is isNumber isMode modeIn startIn
+other-starts =
+    record {
+      nothing-at-all = refl;
+      two-spaces = refl;
+      a-word-more = refl;
+      a-word-less = refl;
+      leading-zero = refl;
+      number-beyond = refl;
+      minus-before-desks = refl;
       capital-letter = refl;
       no-line-feed = refl;
     }

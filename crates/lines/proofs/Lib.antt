@@ -1,0 +1,5 @@
+pub mod Words
+pub mod Steps
+pub mod Starts
+pub mod Samples
+pub mod Printed
