@@ -15,7 +15,7 @@ use Rattle.answer.proofs.Laws.{refused-is-not-answered}
 use Rattle.content.specs.declared.Content.the-variants.{Open, Day}
 use Rattle.sheet.proofs.Laws.Bools.{and-split}
 use Rattle.tray.specs.Tray.{sheetAt}
-use Rattle.desk.specs.Calls.{lastTurn}
+use Rattle.refusals.specs.Rules.{lastTurn}
 use Rattle.runs.specs.Calls.{Call, document01, writes, reads, delivers, takes}
 use Rattle.runs.specs.Run.{Shelf, Within, State, sheetNo, start, Run}
 use Rattle.runs.specs.TurnRules.{now, turnOf, HasTurn, CanSend, CanTake, answers-it}

@@ -9,7 +9,7 @@ use native.Mathlib.Omega.{arith}
 use borrow.Author.Tests.{ltb-true}
 use Rattle.answer.specs.Answer.{refused}
 use Rattle.answer.proofs.Laws.{refused-is-not-answered}
-use Rattle.desk.specs.Calls.{lastTurn}
+use Rattle.refusals.specs.Rules.{lastTurn}
 use Rattle.runs.specs.Calls.{Call, reads, sends, delivers, takes}
 use Rattle.runs.specs.Run.{State, start, made, after}
 use Rattle.runs.specs.TurnRules.{now, turnOf, OneTurn, OneSheet, No17, GoesOn, WaitEnds, Untaken, CanSend, CanTake}

@@ -16,8 +16,9 @@ use Rattle.answer.proofs.Laws.{refused-if, refused-only-if, answered-only-if}
 use Rattle.layout.specs.Layout.{trailerIn}
 use Rattle.sheet.proofs.Laws.Good.{good-trailer-is-fair}
 use Rattle.sound.specs.Head.{readWaits, waitCell}
+use Rattle.refusals.specs.Rules.{lastTurn, trayFits}
 use Rattle.desk.specs.Answers.{held, stored, Value}
-use Rattle.desk.specs.Calls.{sound, lastTurn, trayFits, sendRules, sendOf, deliverRules, deliverOf, takeRules, takeOf, writeRules, writeOf, readRules, readOf}
+use Rattle.desk.specs.Calls.{sound, sendRules, sendOf, deliverRules, deliverOf, takeRules, takeOf, writeRules, writeOf, readRules, readOf}
 use Rattle.desk.specs.declared.Desk.{Desk}
 use Rattle.desk.proofs.Laws.Allowed.{take-allows}
 use Rattle.keeping.proofs.Laws.Rules.{never-given}
@@ -42,7 +43,7 @@ module _ {shelf : Shelf} {s : State} (o : InOrder shelf s) (p : ℕ) (here : p <
   no-5 : not (sound (s .desk p)) ≡ false
   no-5 = rw (mine .as-opened .is-sound)
 
-  no-12 : not (trayFits (s .desk p) (s .tray p)) ≡ false
+  no-12 : not (trayFits (s .desk p .head) (length (s .tray p))) ≡ false
   no-12 = rw (tray-fits mine)
 
   at-last : eqb (turnOf s p) lastTurn ≡ true

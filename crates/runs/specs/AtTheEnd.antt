@@ -13,7 +13,7 @@ use lib.ListN.{length}
 use Rattle.answer.specs.Answer.{refused}
 use Rattle.content.specs.declared.Content.{Content}
 use Rattle.sound.specs.Head.{ownTurn}
-use Rattle.desk.specs.Calls.{lastTurn}
+use Rattle.refusals.specs.Rules.{lastTurn}
 use Rattle.runs.specs.Calls.{Call, document01, writes, reads, sends, delivers, takes}
 use Rattle.runs.specs.Run.{Shelf, Within, State, start, made, after, Possible, Run}
 use Rattle.runs.specs.TurnRules.{now, turnOf, CanSend, CanTake, ReadWaits}

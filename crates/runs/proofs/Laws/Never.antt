@@ -18,10 +18,11 @@ use Rattle.answer.proofs.Laws.{refused-is-not-answered}
 use Rattle.layout.specs.Layout.{trailerIn, numbersOf}
 use Rattle.sound.specs.Head.{turnDesk}
 use Rattle.tray.specs.Tray.{free, sheetAt, holdsGood}
+use Rattle.refusals.specs.Rules.{trayFits, isNext}
+use Rattle.refusals.proofs.Laws.Next.{Next, next-if}
 use Rattle.desk.specs.declared.Desk.{Desk}
 use Rattle.desk.specs.Answers.{Value}
-use Rattle.desk.specs.Calls.{sound, trayFits, isNext}
-use Rattle.desk.proofs.Laws.Next.{Next, next-if}
+use Rattle.desk.specs.Calls.{sound}
 use Rattle.keeping.proofs.Laws.Rules.{Off, never-given}
 use Rattle.runs.specs.Calls.{Call, document01, writes, reads, sends, delivers, takes}
 use Rattle.runs.specs.Run.{Shelf, Sheet, sheetOn, State, made, Possible}
@@ -32,7 +33,7 @@ use Rattle.runs.proofs.Laws.Steps.{rulesOf, Step, is-refused, is-stored
 -- ---- tests that pass
 
 module _ {shelf : Shelf} {line : List Sheet} {p : ℕ} {d : Desk} {tray : List ℕ} (o : DeskInOrder shelf line p d tray) where
-  pub tray-fits : trayFits d tray ≡ true
+  pub tray-fits : trayFits (d .head) (length tray) ≡ true
   tray-fits = eq-eqb (length tray) (398 * d .head .n) (o .tray-long ∙ ap (λ (n : ℕ). 398 * n) (sym (o .as-opened .n)))
 
   module _ (k : ℕ) (x : SheetInOrder shelf k (sheetOn line k)) where
@@ -66,7 +67,7 @@ module _ (shelf : Shelf) (s : State) (o : InOrder shelf s) (k : ℕ) (b : barred
     no-5 : not (sound (s .desk p)) ≡ false
     no-5 = rw (o .desks p here .as-opened .is-sound)
 
-    no-12 : not (trayFits (s .desk p) (s .tray p)) ≡ false
+    no-12 : not (trayFits (s .desk p .head) (length (s .tray p))) ≡ false
     no-12 = rw (tray-fits (o .desks p here))
 
     no-21 : free (s .tray p) (turnDesk (s .desk p .head)) ≡ false
