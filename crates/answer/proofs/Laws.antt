@@ -2,8 +2,8 @@
 --   answered-only-if, answered-if, changed-if      a call is carried out exactly if no rule applies
 --   refused-only-if, refused-if, unchanged-if      it is refused with k exactly if the first rule that applies has the number k, and
 --                                                  changes nothing then
---   silent-if-0, first-if-number, number-of-first, number-of-silent      what the number of the first rule that applies says (specs/Parts.antt)
---   first-of-both, second-of-both                  rules that are tested in two parts
+--   silent-if-0, first-if-number, number-of-first, number-of-silent      what the number of the first rule that applies says
+--   numbered-both, first-of-both, second-of-both, number-of-both      rules that are tested in two parts
 --   gives, gives-such, either-way                  whether the number that is given is such a number, as a test that computes on a list of rules: with
 --                                                  `simp` and what is known of some of them, wherever they stand in the list
 --   first-that-applies : EveryCallAnswers, refused-changes-nothing : RefusedChangesNothing (specs/Promises.antt)
@@ -11,13 +11,15 @@
 --   apart, again                                   answers have different meanings: shown by a function, mostly `again`, that finds the answer
 -- Assumes nothing.
 use mathlib.Core.Path.{_≡_, refl, sym, ap, _∙_}
-use mathlib.Core.Bool.{Bool, true, false, cond}
+use mathlib.Core.Bool.{Bool, true, false, cond, not}
 use mathlib.Core.List.{List, [], _∷_, _++_}
 use Prim.Native.Nat.{ℕ}
 use native.Mathlib.Omega.{arith}
+use lib.Dec.{eqb}
+use borrow.Author.Tests.{eqb-true, eqb-false}
 use Rattle.answer.specs.Promises.{Silent, First, this, later, EveryCallAnswers, RefusedChangesNothing}
-use Rattle.answer.specs.Parts.{numberOf, Numbered}
-use Rattle.answer.specs.Answer.{Answer, refused, answered, Rule, answer, leaves}
+use Rattle.answer.specs.Parts.{Numbered}
+use Rattle.answer.specs.Answer.{Answer, refused, answered, Rule, answer, leaves, numberOf}
 
 pub refused-is-not-answered : {A : Type 0} (k : ℕ) (a : A) → refused k ≡ answered a → ⊥
 refused-is-not-answered k a e = let z : _≡_ {A = ℕ} 0 1 = cc in omega arith
@@ -68,6 +70,7 @@ unchanged-if before after (later p f) = rw p (unchanged-if before after f)
 -- ---- by its number
 
 pub silent-if-0 : (rs : List Rule) → Numbered rs → numberOf rs ≡ 0 → Silent rs
+unfolding numberOf
 silent-if-0 [] some e = tt
 silent-if-0 (r ∷ rs) some e = by-test (silent-if-0 rs (some .1)) (r .applies) refl
   where
@@ -76,6 +79,7 @@ silent-if-0 (r ∷ rs) some e = by-test (silent-if-0 rs (some .1)) (r .applies) 
     by-test rest false p = (p, rest (sym (rw p) ∙ e))
 
 pub first-if-number : (rs : List Rule) (k : ℕ) → numberOf rs ≡ k → (k ≡ 0 → ⊥) → First k rs
+unfolding numberOf
 first-if-number [] k e h = absurd (h (sym e))
 first-if-number (r ∷ rs) k e h = by-test (first-if-number rs k) (r .applies) refl
   where
@@ -84,10 +88,12 @@ first-if-number (r ∷ rs) k e h = by-test (first-if-number rs k) (r .applies) r
     by-test rest false p = later p (rest (sym (rw p) ∙ e) h)
 
 pub number-of-silent : (rs : List Rule) → Silent rs → numberOf rs ≡ 0
+unfolding numberOf
 number-of-silent [] s = refl
 number-of-silent (r ∷ rs) s = rw (s .0) (number-of-silent rs (s .1))
 
 pub number-of-first : {rs : List Rule} {k : ℕ} → First k rs → numberOf rs ≡ k
+unfolding numberOf
 number-of-first (this p n) = rw p n
 number-of-first (later p f) = rw p (number-of-first f)
 
@@ -95,8 +101,13 @@ pub first-is-some : {rs : List Rule} {k : ℕ} → Numbered rs → First k rs �
 first-is-some some (this p n) e = let z = n ∙ e in omega (arith, some .0, z)
 first-is-some some (later p f) e = first-is-some (some .1) f e
 
+pub numbered-both : (rs more : List Rule) → Numbered rs → Numbered more → Numbered (rs ++ more)
+numbered-both [] more some rest = rest
+numbered-both (r ∷ rs) more some rest = (some .0, numbered-both rs more (some .1) rest)
+
 -- rules that are tested in two parts: where one of the first applies, the rest do not count; where none does, they alone count
 pub first-of-both : (rs more : List Rule) (k : ℕ) → numberOf rs ≡ k → (k ≡ 0 → ⊥) → numberOf (rs ++ more) ≡ k
+unfolding numberOf
 first-of-both [] more k e h = absurd (h (sym e))
 first-of-both (r ∷ rs) more k e h = by-test (first-of-both rs more k) (r .applies) refl
   where
@@ -105,11 +116,19 @@ first-of-both (r ∷ rs) more k e h = by-test (first-of-both rs more k) (r .appl
     by-test rest false p = rw p (rest (sym (rw p) ∙ e) h)
 
 pub second-of-both : (rs more : List Rule) → Numbered rs → numberOf rs ≡ 0 → numberOf (rs ++ more) ≡ numberOf more
+unfolding numberOf
 second-of-both rs more some e = by-silence rs (silent-if-0 rs some e)
   where
     by-silence : (rs : List Rule) → Silent rs → numberOf (rs ++ more) ≡ numberOf more
     by-silence [] s = refl
     by-silence (r ∷ rs) s = rw (s .0) (by-silence rs (s .1))
+
+pub number-of-both : (rs more : List Rule) → Numbered rs → cond (not (eqb (numberOf rs) 0)) (numberOf rs) (numberOf more) ≡ numberOf (rs ++ more)
+number-of-both rs more some = by-test (eqb (numberOf rs) 0) refl
+  where
+    by-test : (t : Bool) → eqb (numberOf rs) 0 ≡ t → cond (not (eqb (numberOf rs) 0)) (numberOf rs) (numberOf more) ≡ numberOf (rs ++ more)
+    by-test true p = rw p (sym (second-of-both rs more some (eqb-true (numberOf rs) 0 p)))
+    by-test false p = rw p (sym (first-of-both rs more (numberOf rs) refl (eqb-false (numberOf rs) 0 p)))
 
 -- ---- which number is given
 

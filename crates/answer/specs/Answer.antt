@@ -35,3 +35,8 @@ answer (r ∷ rs) a = cond (r .applies) (refused (r .number)) (answer rs a)
 abbrev pub leaves : {A : Type 0} → List Rule → A → A → A
 leaves [] before after = after
 leaves (r ∷ rs) before after = cond (r .applies) before (leaves rs before after)
+
+-- "the first that applies is given, and none otherwise": its number, or 0, which no rule has. Code finds it, one rule before the rest
+unfoldable pub numberOf : List Rule → ℕ
+numberOf [] = 0
+numberOf (r ∷ rs) = cond (r .applies) (r .number) (numberOf rs)

@@ -1,19 +1,18 @@
 -- 01, "A desk, call by call", and the table of "Numbers given back": a definition for each call, which gives its answer, the next record
--- and the lent bytes for every input.
+-- and the lent bytes for every input. crates/refusals/specs/Rules.antt has the rules of each call, crates/pending/specs/Pending.antt
+-- that of a buffer, 11.
 -- Assumes nothing.
-use Prim.Native.Nat.{ℕ, _+_, _*_}
+use Prim.Native.Nat.{ℕ, _+_}
 use mathlib.Core.Bool.{Bool, true, cond, not, _&&_}
 use mathlib.Core.List.{List, [], _∷_, _++_}
 use mathlib.Core.Option.{Option, none, some}
-use lib.Dec.{eqb, leb, ltb}
+use lib.Dec.{eqb}
 use lib.IntN.{pos}
 use lib.ListN.{length, drop, replicate}
 use Rattle.answer.specs.Answer.{Rule, _if_}
 use Rattle.content.specs.declared.Content.{Content}
 use Rattle.content.specs.Content.{kindOf, dayOf}
-use Rattle.numbers.specs.Limits.{within}
 use Rattle.layout.specs.declared.Entry.{Entry}
-use Rattle.layout.specs.declared.Numbers.{Numbers}
 use Rattle.layout.specs.Layout.{entriesOf, trailerIn, numbersOf}
 use Rattle.sheet.specs.Good.{good}
 use Rattle.cells.specs.Cells.{contentAt, blank, filled, putIf}
@@ -21,9 +20,11 @@ use Rattle.cells.specs.Cells as cells
 use Rattle.sound.specs.declared.Head.{Head}
 use Rattle.sound.specs.Head.{sequential, causal, turnDesk, ownTurn, readWaits, waitCell}
 use Rattle.sound.specs.Sound.{soundOf}
-use Rattle.tray.specs.Tray.{free, sheetAt, holdsGood, heldIn, clearedIn}
-use Rattle.pending.specs.Pending.{pendingEntries, sheetOf}
+use Rattle.tray.specs.Tray.{free, sheetAt, heldIn, clearedIn}
+use Rattle.pending.specs.Pending.{pendingEntries, sheetOf, roomRules}
 use Rattle.applying.specs.Applying.{goes, laid, kindOn, dayOn, wentOf}
+use Rattle.refusals.specs.Rules.{trayRules, sheetRules, turnRules, placeRules}
+use Rattle.refusals.specs.Rules as rules
 use Rattle.desk.specs.declared.Desk.{Desk}
 use Rattle.desk.specs.Answers.{opened, stored, holds, waits, sent, held, taken, Done, call}
 
@@ -31,20 +32,11 @@ use Rattle.desk.specs.Answers.{opened, stored, holds, waits, sent, held,
 abbrev pub sound : Desk → Bool
 sound d = soundOf (d .head) (d .kind) (d .day) (d .pkind) (d .pday)
 
--- the greatest turn number
-abbrev pub lastTurn : ℕ
-lastTurn = 4294967295
-
 -- ---- Open
 
--- 1, 2, 3, 4: "desks, cells, own number, mode (above 3) outside its range"
+-- "Open: 1, 2, 3, 4."
 abbrev pub openRules : ℕ → ℕ → ℕ → ℕ → List Rule
-openRules n m own mode =
-    1 if not (within 1 16 n)
-    ∷ 2 if not (within 1 64 m)
-    ∷ 3 if leb n own
-    ∷ 4 if ltb 3 mode
-    ∷ []
+openRules n m own mode = rules.openRules n m own mode
 
 -- "Mode 0 means the default: causal."
 abbrev pub modeFor : ℕ → ℕ
@@ -72,14 +64,9 @@ openOf n m own mode =
 
 -- ---- Write
 
--- 5 "record not sound", 6 "cell not below m", 7 "write of blank", 8 "a read waits at this desk"
+-- "Write: 5, 6, 7, 8."
 abbrev pub writeRules : Desk → ℕ → Content → List Rule
-writeRules d cell c =
-    5 if not (sound d)
-    ∷ 6 if leb (d .head .m) cell
-    ∷ 7 if eqb (kindOf c) 0
-    ∷ 8 if readWaits (d .head)
-    ∷ []
+writeRules d cell c = rules.writeRules (sound d) (d .head) cell (kindOf c)
 
 -- "The cell takes the content; the content becomes that cell's pending entry, replacing an earlier one."
 abbrev pub writtenDesk : Desk → ℕ → Content → Desk
@@ -97,13 +84,9 @@ writeOf d cell c = call (writeRules d cell c) d [] stored (writtenDesk d cell c)
 
 -- ---- Read
 
--- 5, 6, 8
+-- "Read: 5, 6, 8."
 abbrev pub readRules : Desk → ℕ → List Rule
-readRules d cell =
-    5 if not (sound d)
-    ∷ 6 if leb (d .head .m) cell
-    ∷ 8 if readWaits (d .head)
-    ∷ []
+readRules d cell = rules.readRules (sound d) (d .head) cell
 
 -- "It waits exactly if the mode is sequential, something is pending, this cell is not, and the turn is elsewhere."
 unfoldable pub mustWait : Desk → ℕ → Bool
@@ -131,14 +114,9 @@ readOf d cell =
 
 -- ---- Send
 
--- 5, 9 "turn not this desk's", 10 "turn number is 4,294,967,295", 11 "buffer shorter than the sheet"
+-- "Send: 5, 9, 10, 11."
 abbrev pub sendRules : Desk → List ℕ → List Rule
-sendRules d buf =
-    5 if not (sound d)
-    ∷ 9 if not (ownTurn (d .head))
-    ∷ 10 if eqb (d .head .turn) lastTurn
-    ∷ 11 if ltb (length buf) (length (sheetOf (d .head) (d .pkind) (d .pday)))
-    ∷ []
+sendRules d buf = rules.sendRules (sound d) (d .head) ++ roomRules (sheetOf (d .head) (d .pkind) (d .pday)) buf
 
 -- the head with the next turn number and this waiting read
 abbrev pub nextHead : Head → ℕ → Head
@@ -166,25 +144,12 @@ sendOf d buf =
 
 -- ---- Deliver
 
--- 12: "tray length not 398 × n"
-abbrev pub trayFits : Desk → List ℕ → Bool
-trayFits d tray = eqb (length tray) (398 * d .head .n)
-
--- 5, 12, 13 "sheet not good", 14 "sheet's desks or cells differ from the record's", 15 "sheet's sender is this desk", 16 "sheet's number below
--- the desk's turn number", 17 "sheet's number at or above turn number + n", 18 "sender's place not free"
+-- "Deliver: 5, 12, 13, 14, 15, 16, 17, 18." 13 is "sheet not good"
 abbrev pub deliverRules : Desk → List ℕ → List ℕ → List Rule
 deliverRules d tray s =
     let h = d .head in
     let x = numbersOf (trailerIn s) in
-    5 if not (sound d)
-    ∷ 12 if not (trayFits d tray)
-    ∷ 13 if not (good s)
-    ∷ 14 if not (eqb (x .desks) (h .n) && eqb (x .cells) (h .m))
-    ∷ 15 if eqb (x .sender) (h .own)
-    ∷ 16 if ltb (x .turn) (h .turn)
-    ∷ 17 if leb (h .turn + h .n) (x .turn)
-    ∷ 18 if not (free tray (x .sender))
-    ∷ []
+    trayRules (sound d) h (length tray) ++ 13 if not (good s) ∷ sheetRules h x (free tray (x .sender))
 
 -- "Puts a sheet in the sender's place in the lent tray. The record stays."
 unfoldable pub deliverOf : Desk → List ℕ → List ℕ → Done
@@ -192,23 +157,11 @@ deliverOf d tray s = call (deliverRules d tray s) d tray held d (heldIn tray (tr
 
 -- ---- Take
 
--- "a good sheet of this shelf with that sender and turn number"
-abbrev pub isNext : Head → Numbers → Bool
-isNext h x = (eqb (x .desks) (h .n) && eqb (x .cells) (h .m)) && (eqb (x .sender) (turnDesk h) && eqb (x .turn) (h .turn))
-
--- 5, 12, 19 "take on the desk's own turn", 10, 20 "first two bytes of the turn desk's place are zero", 21 "place does not hold a good sheet of
--- this shelf with that sender and turn number, followed by zeros"
+-- "Take: 5, 12, 19, 10, 20, 21."
 abbrev pub takeRules : Desk → List ℕ → List Rule
 takeRules d tray =
     let h = d .head in
-    let q = turnDesk h in
-    5 if not (sound d)
-    ∷ 12 if not (trayFits d tray)
-    ∷ 19 if ownTurn h
-    ∷ 10 if eqb (h .turn) lastTurn
-    ∷ 20 if free tray q
-    ∷ 21 if not (holdsGood tray q && isNext h (numbersOf (trailerIn (sheetAt tray q))))
-    ∷ []
+    trayRules (sound d) h (length tray) ++ turnRules h ++ placeRules h tray (turnDesk h)
 
 -- "Takes the sheet of the desk whose turn it is": the entries of the sheet in that desk's place
 abbrev pub entriesTaken : Desk → List ℕ → List Entry

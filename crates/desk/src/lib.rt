@@ -10,7 +10,6 @@ ghost use Rattle.desk.specs.Answers.{outcome};
 ghost use Rattle.desk.specs.Calls.{openOf, writeOf, readOf, sendOf, deliverOf, takeOf};
 ghost use Rattle.desk.specs.Calls as calls;
 
-mod refusals;
 mod steps;
 
 use content::Content;
@@ -80,7 +79,7 @@ impl Desk {
         let kind = [0u8; 64];
         let day = [0i32; 64];
         Outcome {
-            answer: refusals::given_if(number, Answer::Opened),
+            answer: steps::given_if(number, Answer::Opened),
             desk: Desk {
                 head: head,
                 kind: kind,
@@ -108,7 +107,7 @@ impl Desk {
         cells::put_kind(&mut self.pkind, on, i, kind);
         cells::put_day(&mut self.pday, on, i, day);
         Outcome {
-            answer: refusals::given_if(number, Answer::Stored),
+            answer: steps::given_if(number, Answer::Stored),
             desk: self,
         }
     }
@@ -129,7 +128,7 @@ impl Desk {
         next.wait = steps::wait_at(waits, h.wait, cell);
         self.head = next;
         Outcome {
-            answer: refusals::given_if(number, answer),
+            answer: steps::given_if(number, answer),
             desk: self,
         }
     }
@@ -192,7 +191,7 @@ impl Desk {
                 let number = refusals::sheet_number(h, x, free);
                 steps::hold_if(tray, number == 0, x.sender, sheet);
                 Outcome {
-                    answer: refusals::given_if(number, Answer::Held),
+                    answer: steps::given_if(number, Answer::Held),
                     desk: self,
                 }
             }
@@ -217,7 +216,7 @@ impl Desk {
             };
         }
         let q = h.turn_desk() as u8;
-        let looked = steps::look(h, tray, q);
+        let looked = refusals::look(h, tray, q);
         if looked.number != 0 {
             return Outcome {
                 answer: Answer::Refused(looked.number),

@@ -6,13 +6,22 @@ ghost use lib.ListN.{length, drop};
 ghost use Rattle.sound.specs.Head.{causal, waitCell};
 ghost use Rattle.tray.specs.Tray.{start};
 ghost use Rattle.applying.specs.Applying.{entriesIn, Applies};
-ghost use Rattle.desk.specs.Calls.{nextHead, readEnds, isNext};
-ghost use Rattle.desk.specs.Parts.{openedHead, waitsFor, waitAt, readAnswer, heldIf, lookedAt, takenAnswer};
+ghost use Rattle.desk.specs.Calls.{nextHead, readEnds};
+ghost use Rattle.desk.specs.Parts.{given, openedHead, waitsFor, waitAt, readAnswer, heldIf, takenAnswer};
 use crate::Answer;
 use content::Content;
-use layout::Numbers;
 use sound::Head;
-use tray::Place;
+
+// The answer, where the number is none; else the refusal.
+pub(crate) fn given_if(number: u8, a: Answer) -> Answer
+    ensures { λ r. ⌜ r ≡ given number a ⌝ }
+{
+    if number == 0 {
+        a
+    } else {
+        Answer::Refused(number)
+    }
+}
 
 // The head of a desk that was opened, or of zeros where open refuses.
 pub(crate) fn opened_head(number: u8, n: u32, m: u32, own: u32, mode: u32) -> Head
@@ -124,44 +133,6 @@ pub(crate) fn hold_if(tray: &mut [u8], on: bool, q: u8, sheet: &[u8])
 {
     if on {
         tray::hold(tray, q, sheet);
-    }
-}
-
-// "a good sheet of this shelf with that sender and turn number".
-pub(crate) fn is_next(h: Head, x: Numbers) -> bool
-    ensures { λ r. ⌜ r ≡ isNext h x ⌝ }
-{
-    let desk = h.turn_desk();
-    ((x.desks == h.n) & (x.cells == h.m)) & (((x.sender as u32) == desk) & (x.turn == h.turn))
-}
-
-// What a look at the place of the desk whose turn it is finds: the number of a refusal, or 0 and the
-// number of entries of the sheet.
-pub(crate) struct Looked {
-    pub number: u8,
-    pub entries: u8,
-}
-
-// Take: 20, 21.
-pub(crate) fn look(h: Head, tray: &[u8], q: u8) -> Looked
-    ensures { λ r. ⌜ r ≡ lookedAt h (now (tray .entry)) q ⌝ }
-{
-    match tray::look(tray, q) {
-        Place::Free => Looked {
-            number: 20,
-            entries: 0,
-        },
-        Place::Spoilt => Looked {
-            number: 21,
-            entries: 0,
-        },
-        Place::Holds(x) => {
-            let next = is_next(h, x);
-            Looked {
-                number: answer::first(!next, 21, 0),
-                entries: x.entries,
-            }
-        }
     }
 }
 

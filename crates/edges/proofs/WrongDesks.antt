@@ -27,9 +27,10 @@ use Rattle.tray.specs.Tray.{holdsGood, heldIn, clearedIn}
 use Rattle.pending.specs.Pending.{pendingBelow, pendingEntries, numbersFor, sheetOf}
 use Rattle.applying.specs.Applying.{goes, laid, wentOf}
 use Rattle.applying.proofs.Laws.{went-within}
+use Rattle.refusals.specs.Rules.{lastTurn}
 use Rattle.desk.specs.declared.Desk.{Desk}
 use Rattle.desk.specs.Answers.{Value, Done, opened, stored, holds, waits, sent, held, taken}
-use Rattle.desk.specs.Calls.{sound, lastTurn, nextHead, readEnds, entriesTaken, takenDesk, waitedFor, sentDesk, readRules, sendRules, takeRules, mustWait, openOf, writeOf, readOf, sendOf, deliverOf, takeOf}
+use Rattle.desk.specs.Calls.{sound, nextHead, readEnds, entriesTaken, takenDesk, waitedFor, sentDesk, readRules, sendRules, takeRules, mustWait, openOf, writeOf, readOf, sendOf, deliverOf, takeOf}
 use Rattle.desk.proofs.Laws.Allowed.{desk-says, send-allows, take-allows}
 use Rattle.edges.specs.Examples.{wrote, sends, delivers, takes, takesNine}
 use Rattle.edges.specs.Examples as desks

@@ -21,9 +21,10 @@ use Rattle.sound.specs.Head.{causal, turnDesk, ownTurn, readWaits, waitCell}
 use Rattle.tray.specs.Tray.{sheetAt}
 use Rattle.pending.specs.Pending.{numbersFor}
 use Rattle.applying.specs.Applying.{goes, wentOf}
+use Rattle.refusals.specs.Rules.{lastTurn}
 use Rattle.desk.specs.declared.Desk.{Desk}
 use Rattle.desk.specs.Answers.{Value, Done, holds, waits, sent, taken}
-use Rattle.desk.specs.Calls.{sound, lastTurn, nextHead, entriesTaken, openOf, writeOf, readOf, sendOf, deliverOf, takeOf}
+use Rattle.desk.specs.Calls.{sound, nextHead, entriesTaken, openOf, writeOf, readOf, sendOf, deliverOf, takeOf}
 use Rattle.edges.specs.Examples.{opened, wrote, sends, takes, takesNine}
 
 -- ---- "a desk that refuses everything"

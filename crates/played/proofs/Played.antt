@@ -15,7 +15,7 @@ use Rattle.answer.proofs.Laws.{refused-is-not-answered}
 use Rattle.content.specs.declared.Content.the-variants.{Open, Day}
 use Rattle.sheet.proofs.Laws.Bools.{and-split}
 use Rattle.tray.specs.Tray.{sheetAt}
-use Rattle.desk.specs.Calls.{lastTurn}
+use Rattle.refusals.specs.Rules.{lastTurn}
 use Rattle.runs.specs.Calls.{Calls, Call, document01, writes, reads, delivers, takes, sheetRoom}
 use Rattle.runs.specs.Run.{Shelf, State, sheetNo, start, Run, RunOn, now}
 use Rattle.runs.specs.TurnRules.{turnOf, HasTurn, CanSend, CanTake, answers-it}

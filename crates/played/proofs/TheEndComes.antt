@@ -13,9 +13,10 @@ use lib.ListN.{length-replicate}
 use borrow.Author.Tests.{eq-eqb, ne-eqb}
 use Rattle.answer.specs.Answer.{answered}
 use Rattle.sound.specs.Head.{turnDesk}
+use Rattle.refusals.specs.Rules.{lastTurn}
 use Rattle.desk.specs.declared.Desk.{Desk}
 use Rattle.desk.specs.Answers.{sent}
-use Rattle.desk.specs.Calls.{lastTurn, openOf, sendOf}
+use Rattle.desk.specs.Calls.{openOf, sendOf}
 use Rattle.keeping.proofs.Keeping.{numbers-stay}
 use Rattle.runs.specs.Calls.{Call, document01, sends, delivers, takes, sheetRoom}
 use Rattle.runs.specs.Run.{State, sheetNo, start, after, Run, afterAll, RunOn, now}

@@ -9,7 +9,7 @@ use native.Mathlib.Omega.{arith}
 use borrow.Author.Tests.{ltb-true, leb-true}
 use Rattle.answer.specs.Answer.{refused}
 use Rattle.answer.proofs.Laws.{refused-is-not-answered}
-use Rattle.desk.specs.Calls.{lastTurn}
+use Rattle.refusals.specs.Rules.{lastTurn}
 use Rattle.runs.specs.Calls.{Call, reads, sends, delivers, takes, sheetRoom}
 use Rattle.runs.specs.Run.{State, start, made, after, now}
 use Rattle.runs.specs.TurnRules.{turnOf, OneTurn, OneSheet, Never, GoesOn, WaitEnds, Untaken, CanSend, CanTake, takesBy}

@@ -16,7 +16,8 @@ use Rattle.layout.specs.Layout.{trailerIn}
 use Rattle.sheet.proofs.Laws.Good.{good-trailer-is-fair}
 use Rattle.sound.specs.Head.{readWaits, waitCell}
 use Rattle.desk.specs.Answers.{Value}
-use Rattle.desk.specs.Calls.{lastTurn, sendOf, deliverOf, takeRules, takeOf}
+use Rattle.refusals.specs.Rules.{lastTurn}
+use Rattle.desk.specs.Calls.{sendOf, deliverOf, takeRules, takeOf}
 use Rattle.desk.specs.declared.Desk.{Desk}
 use Rattle.desk.proofs.Laws.Allowed.{take-allows}
 use Rattle.runs.specs.Calls.{document01, delivers, Call, takes}

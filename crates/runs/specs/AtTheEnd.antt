@@ -12,7 +12,7 @@ use Prim.Native.Nat.{ℕ, _<_}
 use lib.ListN.{length}
 use Rattle.answer.specs.Answer.{refused}
 use Rattle.sound.specs.Head.{ownTurn}
-use Rattle.desk.specs.Calls.{lastTurn}
+use Rattle.refusals.specs.Rules.{lastTurn}
 use Rattle.runs.specs.Calls.{Call, document01, sends, delivers, takes}
 use Rattle.runs.specs.Run.{Shelf, State, sheetNo, made, after, Possible, RunOn, now}
 use Rattle.runs.specs.TurnRules.{turnOf, SomeGoesOn, ReadWaits}

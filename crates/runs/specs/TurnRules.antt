@@ -15,8 +15,8 @@ use Rattle.layout.specs.Layout.{trailerIn}
 use Rattle.cells.specs.Cells.{contentAt}
 use Rattle.sound.specs.Head.{turnDesk, ownTurn, readWaits, waitCell}
 use Rattle.tray.specs.Tray.{sheetAt}
+use Rattle.refusals.specs.Rules.{lastTurn}
 use Rattle.desk.specs.Answers.{Value, waits, sent, held, taken}
-use Rattle.desk.specs.Calls.{lastTurn}
 use Rattle.runs.specs.Calls.{Calls, Call, writes, reads, sends, delivers, takes}
 use Rattle.runs.specs.Run.{Shelf, State, sheetNo, start, made, after, Possible, Run, RunOn, now}
 

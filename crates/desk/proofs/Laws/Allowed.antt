@@ -24,9 +24,10 @@ use Rattle.sound.specs.Head.{turnDesk, ownTurn, readWaits}
 use Rattle.sound.proofs.Laws.Sound.{Sound, sound-says}
 use Rattle.tray.specs.Tray.{free, sheetAt, holdsGood}
 use Rattle.pending.specs.Pending.{sheetOf}
+use Rattle.refusals.specs.Rules.{lastTurn, isNext}
+use Rattle.refusals.proofs.Laws.Next.{Next, next-says, next-if}
 use Rattle.desk.specs.declared.Desk.{Desk}
-use Rattle.desk.specs.Calls.{sound, lastTurn, openRules, writeRules, readRules, sendRules, deliverRules, takeRules, isNext}
-use Rattle.desk.proofs.Laws.Next.{Next, next-says, next-if}
+use Rattle.desk.specs.Calls.{sound, openRules, writeRules, readRules, sendRules, deliverRules, takeRules}
 
 -- a sound record, as its clauses
 abbrev pub SoundDesk : Desk → Type 0

@@ -1,18 +1,18 @@
 -- Send and deliver as the code makes them: one law for each return.
 --   sendings, deliveries        sets for `search`
 -- Assumes nothing.
-use Prim.Native.Nat.{ℕ, _+_}
+use Prim.Native.Nat.{ℕ}
 use mathlib.Core.Path.{_≡_, refl, sym, ap, _∙_}
-use mathlib.Core.Bool.{Bool, true, false, not, _&&_}
-use mathlib.Core.List.{List, [], _∷_, _++_}
+use mathlib.Core.Bool.{Bool, true, false, not}
+use mathlib.Core.List.{List, _∷_, _++_}
 use native.Mathlib.Omega.{arith}
-use lib.Dec.{eqb, leb, ltb}
+use lib.Dec.{eqb}
 use lib.IntN.{pos}
 use lib.ListN.{length, drop, replicate}
 use borrow.Author.Tests.{eqb-true, eqb-false}
-use Rattle.answer.specs.Answer.{Answer, Rule, refused, _if_, answer}
-use Rattle.answer.specs.Parts.{numberOf, Numbered}
-use Rattle.answer.proofs.Laws.{silent-if-0, refused-only-if, answered-only-if, changed-if, unchanged-if, number-of-first, number-of-silent, first-is-some, first-of-both, second-of-both}
+use Rattle.answer.specs.Answer.{Answer, Rule, refused, _if_, numberOf}
+use Rattle.answer.specs.Parts.{Numbered}
+use Rattle.answer.proofs.Laws.{silent-if-0, refused-only-if, answered-only-if, changed-if, unchanged-if, number-of-first, number-of-silent, first-is-some, numbered-both, first-of-both, second-of-both}
 use Rattle.layout.specs.declared.Numbers.{Numbers}
 use Rattle.layout.specs.Layout.{trailerIn, numbersOf}
 use Rattle.sheet.specs.declared.Reading.{Reading}
@@ -21,25 +21,27 @@ use Rattle.sheet.specs.Good.{good}
 use Rattle.sheet.specs.Reading as sheets
 use Rattle.sheet.proofs.Laws.Reading.{bad-read}
 use Rattle.sound.specs.declared.Head.{Head}
-use Rattle.sound.specs.Head.{ownTurn}
 use Rattle.tray.specs.Tray.{free, heldIn}
 use Rattle.tray.proofs.Laws.Looking.{said-good, said-bad}
 use Rattle.pending.specs.declared.Sent.{Sent}
 use Rattle.pending.specs.declared.Sent.the-variants as sends
 use Rattle.pending.specs.Pending.{pendingEntries, sheetOf, roomRules, entriesSent, bufferWith, saidSent, Sends}
+use Rattle.refusals.specs.Rules.{lastTurn, trayRules, sheetRules}
+use Rattle.refusals.specs.Rules as rules
+use Rattle.refusals.proofs.Laws.Rules.{send-numbered, tray-numbered, sheet-numbered}
 use Rattle.desk.specs.declared.Desk.{Desk}
 use Rattle.desk.specs.declared.Answer as declared
 use Rattle.desk.specs.declared.Answer.the-variants as answers
 use Rattle.desk.specs.Answers.{Value, sent, held, outcome}
-use Rattle.desk.specs.Calls.{lastTurn, sound, trayFits, sendRules, nextHead, sentDesk, sendOf, deliverRules, deliverOf}
-use Rattle.desk.specs.Parts.{sendNumber, trayNumber, sheetNumber, given, heldIf}
+use Rattle.desk.specs.Calls.{sound, sendRules, nextHead, sentDesk, sendOf, deliverRules, deliverOf}
+use Rattle.desk.specs.Parts.{given, heldIf}
 use Rattle.desk.proofs.Laws.Writes.{call-carried-out, call-refused}
 
 -- ---- send
 
 module _ (d : Desk) (buf : List ℕ) where
   early : List Rule
-  early = 5 if not (sound d) ∷ 9 if not (ownTurn (d .head)) ∷ 10 if eqb (d .head .turn) lastTurn ∷ []
+  early = rules.sendRules (sound d) (d .head)
 
   sheet : List ℕ
   sheet = sheetOf (d .head) (d .pkind) (d .pday)
@@ -49,14 +51,15 @@ module _ (d : Desk) (buf : List ℕ) where
 
   early-numbered : Numbered early
   unfolding early
-  early-numbered = (omega arith, (omega arith, (omega arith, tt)))
+  early-numbered = send-numbered (sound d) (d .head)
 
-  send-numbered : Numbered (sendRules d buf)
-  send-numbered = (omega arith, (omega arith, (omega arith, (omega arith, tt))))
+  all-numbered : Numbered (sendRules d buf)
+  unfolding early
+  all-numbered = numbered-both early (roomRules (sheetOf (d .head) (d .pkind) (d .pday)) buf) early-numbered (omega arith, tt)
 
-  module _ {ok : Bool} {number : ℕ} (n : number ≡ sendNumber ok (d .head)) (s : ok ≡ sound d) where
+  module _ {ok : Bool} {number : ℕ} (n : number ≡ numberOf (rules.sendRules ok (d .head))) (s : ok ≡ sound d) where
     early-is : numberOf early ≡ number
-    unfolding sendNumber early
+    unfolding early
     early-is = sym (n ∙ rw s)
 
     pub send-refused : (number ≡ 0 → ⊥) → outcome (record { answer = answers.Refused number; desk = d }) buf ≡ sendOf d buf
@@ -88,7 +91,7 @@ module _ (d : Desk) (buf : List ℕ) where
         send-whole n e h =
             let carried-out = answered-only-if (roomRules sheet buf) (length (pendingEntries (d .pkind) (d .pday))) n (sym (w .answers) ∙ ap saidSent e) in
             rw (h, w .buffer ∙ changed-if (roomRules sheet buf) buf (sheet ++ drop (length sheet) buf) (carried-out .0), ← carried-out .1)
-            (call-carried-out (sendRules d buf) send-numbered d buf value (sentDesk d) (sheet ++ drop (length sheet) buf) (rest-is ∙ number-of-silent (roomRules sheet buf) (carried-out .0)))
+            (call-carried-out (sendRules d buf) all-numbered d buf value (sentDesk d) (sheet ++ drop (length sheet) buf) (rest-is ∙ number-of-silent (roomRules sheet buf) (carried-out .0)))
 
 pub ruleset sendings = (send-refused, send-turn, send-short, send-whole)
 
@@ -99,33 +102,28 @@ refused-same j k e = cc
 
 module _ (d : Desk) (tray s : List ℕ) where
   first-two : List Rule
-  first-two = 5 if not (sound d) ∷ 12 if not (trayFits d tray) ∷ []
+  first-two = trayRules (sound d) (d .head) (length tray)
 
   two-numbered : Numbered first-two
   unfolding first-two
-  two-numbered = (omega arith, (omega arith, tt))
+  two-numbered = tray-numbered (sound d) (d .head) (length tray)
 
   -- those of a good sheet
   of-sheet : List Rule
-  of-sheet =
-      let h = d .head in
-      let x = numbersOf (trailerIn s) in
-      14 if not (eqb (x .desks) (h .n) && eqb (x .cells) (h .m))
-      ∷ 15 if eqb (x .sender) (h .own)
-      ∷ 16 if ltb (x .turn) (h .turn)
-      ∷ 17 if leb (h .turn + h .n) (x .turn)
-      ∷ 18 if not (free tray (x .sender))
-      ∷ []
+  of-sheet = let x = numbersOf (trailerIn s) in sheetRules (d .head) x (free tray (x .sender))
 
   deliver-numbered : Numbered (deliverRules d tray s)
-  deliver-numbered = (omega arith, (omega arith, (omega arith, (omega arith, (omega arith, (omega arith, (omega arith, (omega arith, tt))))))))
+  unfolding first-two of-sheet
+  deliver-numbered =
+      let x = numbersOf (trailerIn s) in
+      numbered-both first-two (13 if not (good s) ∷ of-sheet) two-numbered (omega arith, sheet-numbered (d .head) x (free tray (x .sender)))
 
   after : List ℕ
   after = heldIn tray (trailerIn s .sender) s
 
-  module _ {ok : Bool} {number : ℕ} (n : number ≡ trayNumber ok (d .head) (length tray)) (is : ok ≡ sound d) where
+  module _ {ok : Bool} {number : ℕ} (n : number ≡ numberOf (trayRules ok (d .head) (length tray))) (is : ok ≡ sound d) where
     two-are : numberOf first-two ≡ number
-    unfolding trayNumber first-two
+    unfolding first-two
     two-are = sym (n ∙ rw is)
 
     pub deliver-refused : (number ≡ 0 → ⊥) → outcome (record { answer = answers.Refused number; desk = d }) tray ≡ deliverOf d tray s
@@ -139,7 +137,7 @@ module _ (d : Desk) (tray s : List ℕ) where
 
     module _ (z : number ≡ 0) (r : Reading) (reads : sheets.saidRead s r ≡ sheets.readingOf s) where
       pub deliver-bad : (k : ℕ) → r ≡ reading.Refused k → outcome (record { answer = answers.Refused k; desk = d }) tray ≡ deliverOf d tray s
-      unfolding deliverOf of-sheet after
+      unfolding numberOf deliverOf of-sheet after
       deliver-bad k e =
           let g : good s ≡ false = said-bad s r k e reads in
           let thirteen : k ≡ 13 = refused-same k 13 (sym (ap (sheets.saidRead s) e) ∙ reads ∙ bad-read s g) in
@@ -147,12 +145,12 @@ module _ (d : Desk) (tray s : List ℕ) where
           let some : k ≡ 0 → ⊥ = λ zero. omega (arith, thirteen, zero) in
           call-refused (deliverRules d tray s) d tray held d after k same some
 
-      module _ (x : Numbers) (e : r ≡ reading.Good x) {f : Bool} (fr : f ≡ free tray (x .sender)) {k : ℕ} (m : k ≡ sheetNumber (d .head) x f) where
+      module _ (x : Numbers) (e : r ≡ reading.Good x) {f : Bool} (fr : f ≡ free tray (x .sender)) {k : ℕ} (m : k ≡ numberOf (sheetRules (d .head) x f)) where
         is-good : (good s ≡ true) × (x ≡ numbersOf (trailerIn s))
         is-good = said-good s r x e reads
 
         sheet-is : numberOf (deliverRules d tray s) ≡ k
-        unfolding sheetNumber of-sheet
+        unfolding numberOf of-sheet
         sheet-is = then-sheet z ∙ rw (is-good .0) (sym (m ∙ rw (fr, is-good .1)))
 
         made : (t : Bool) → eqb k 0 ≡ t → outcome (record { answer = given k answers.Held; desk = d }) (heldIf (eqb k 0) tray (x .sender) s) ≡ deliverOf d tray s

@@ -5,41 +5,42 @@
 -- Assumes nothing.
 use Prim.Native.Nat.{ℕ, _+_, _*_, _<_, _≤_}
 use mathlib.Core.Path.{_≡_, refl, sym, ap, _∙_}
-use mathlib.Core.Bool.{Bool, true, false, cond, not, _&&_}
-use mathlib.Core.List.{List, [], _∷_}
+use mathlib.Core.Bool.{Bool, true, false, cond}
+use mathlib.Core.List.{List, _++_}
 use mathlib.Core.Option.{none, some}
 use native.Mathlib.Omega.{arith}
 use native.Mathlib.Nat.{mod-lt}
-use lib.Dec.{eqb}
 use lib.IntN.{ℤ}
 use lib.ListN.{length, take, drop, length-drop}
 use lib.Seq.{ext-getD, getD-take, getD-drop, length-take-le}
 use borrow.Author.Tests.{eqb-true, eqb-false, le-leb, not-false}
 use mir.Syntax.{w8}
 use mir.Val.{Fits}
-use Rattle.answer.specs.Answer.{Rule, answered, _if_}
+use Rattle.answer.specs.Answer.{Rule, answered, numberOf}
 use Rattle.answer.specs.Promises.{Silent}
-use Rattle.answer.specs.Parts.{numberOf, Numbered}
-use Rattle.answer.proofs.Laws.{silent-if-0, first-of-both, second-of-both}
+use Rattle.answer.specs.Parts.{Numbered}
+use Rattle.answer.proofs.Laws.{silent-if-0, changed-if, numbered-both, first-of-both, second-of-both}
 use Rattle.content.specs.declared.Content.{Content}
 use Rattle.numbers.specs.Numbers.{at1}
-use Rattle.layout.specs.Layout.{entryOf, entriesOf, trailerIn, numbersOf}
+use Rattle.layout.specs.Layout.{entryOf, entriesOf, trailerIn}
 use Rattle.layout.proofs.Laws.{entries-count, entry-of-entries}
 use Rattle.sheet.specs.Reading.{noEntry}
 use Rattle.sheet.proofs.Laws.Good.{good-length}
 use Rattle.cells.specs.Cells.{contentAt}
 use Rattle.sound.specs.declared.Head.{Head}
-use Rattle.sound.specs.Head.{causal, turnDesk, ownTurn, waitCell}
-use Rattle.tray.specs.Tray.{start, lengthAt, free, sheetAt, holdsGood, placeOf, clearedIn}
+use Rattle.sound.specs.Head.{causal, turnDesk, waitCell}
+use Rattle.tray.specs.Tray.{start, lengthAt, sheetAt, holdsGood, clearedIn}
 use Rattle.tray.proofs.Laws.Places.{place-there, holds-says}
 use Rattle.applying.specs.Applying.{goes, wentOf, entriesIn, Applies}
+use Rattle.refusals.specs.declared.Looked.{Looked}
+use Rattle.refusals.specs.Rules.{lastTurn, trayRules, turnRules, placeRules, lookedAt}
+use Rattle.refusals.proofs.Laws.Rules.{tray-numbered, turn-numbered, place-numbered}
 use Rattle.desk.specs.declared.Desk.{Desk}
 use Rattle.desk.specs.declared.Answer as declared
 use Rattle.desk.specs.declared.Answer.the-variants as answers
-use Rattle.desk.specs.declared.steps.Looked.{Looked}
 use Rattle.desk.specs.Answers.{Value, taken, said, outcome}
-use Rattle.desk.specs.Calls.{lastTurn, sound, trayFits, nextHead, isNext, takeRules, entriesTaken, readEnds, takenDesk, waitedFor, takeOf}
-use Rattle.desk.specs.Parts.{takeNumber, lookedAt, takenAnswer}
+use Rattle.desk.specs.Calls.{sound, nextHead, takeRules, entriesTaken, readEnds, takenDesk, waitedFor, takeOf}
+use Rattle.desk.specs.Parts.{takenAnswer}
 use Rattle.desk.proofs.Laws.Allowed.{desk-says, TakeAllowed, take-allows}
 use Rattle.desk.proofs.Laws.Writes.{call-carried-out, call-refused}
 
@@ -70,25 +71,6 @@ taken-entries tray q e =
     let long : lengthAt tray q ≡ 6 * n + 12 = sym (length-take-le (lengthAt tray q) l room) ∙ good-length (sheetAt tray q) (h .sheet-good) in
     rw (le-leb (6 * n + 12) (length l) (omega arith)) (sym (entries-there (lengthAt tray q) l n (omega arith)))
 
--- ---- a look, as rules
-
-module _ (h : Head) (tray : List ℕ) (q : ℕ) where
-  abbrev place-rules : List Rule
-  place-rules = 20 if free tray q ∷ 21 if not (holdsGood tray q && isNext h (numbersOf (trailerIn (sheetAt tray q)))) ∷ []
-
-  looked-number : lookedAt h tray q .number ≡ numberOf place-rules
-  unfolding lookedAt placeOf
-  looked-number = by-tests (free tray q) (holdsGood tray q) refl refl
-    where
-      by-tests : (f g : Bool) → free tray q ≡ f → holdsGood tray q ≡ g → lookedAt h tray q .number ≡ numberOf place-rules
-      by-tests true g p r = rw p
-      by-tests false true p r = rw (p, r)
-      by-tests false false p r = rw (p, r)
-
-  looked-entries : holdsGood tray q ≡ true → free tray q ≡ false → lookedAt h tray q .entries ≡ trailerIn (sheetAt tray q) .entries
-  unfolding lookedAt placeOf
-  looked-entries g f = rw (f, g)
-
 -- ---- take
 
 -- what the answer says
@@ -99,28 +81,37 @@ said-taken turn entries applied false c = refl
 
 module _ (d : Desk) (tray : List ℕ) where
   early : List Rule
-  early = 5 if not (sound d) ∷ 12 if not (trayFits d tray) ∷ 19 if ownTurn (d .head) ∷ 10 if eqb (d .head .turn) lastTurn ∷ []
+  early = trayRules (sound d) (d .head) (length tray) ++ turnRules (d .head)
 
   early-numbered : Numbered early
   unfolding early
-  early-numbered = (omega arith, (omega arith, (omega arith, (omega arith, tt))))
+  early-numbered = numbered-both (trayRules (sound d) (d .head) (length tray)) (turnRules (d .head)) (tray-numbered (sound d) (d .head) (length tray)) (turn-numbered (d .head))
+
+  -- those of the place of the desk whose turn it is
+  of-place : List Rule
+  of-place = placeRules (d .head) tray (turnDesk (d .head))
+
+  of-place-numbered : Numbered of-place
+  unfolding of-place
+  of-place-numbered = place-numbered (d .head) tray (turnDesk (d .head))
 
   take-numbered : Numbered (takeRules d tray)
-  take-numbered = (omega arith, (omega arith, (omega arith, (omega arith, (omega arith, (omega arith, tt))))))
+  unfolding early of-place
+  take-numbered = numbered-both early of-place early-numbered of-place-numbered
 
   value : Value
   value = taken (d .head .turn) (length (entriesTaken d tray)) (wentOf (goes (causal (d .head)) (d .pkind)) (entriesTaken d tray)) (waitedFor (d .head) (takenDesk d (entriesTaken d tray)))
 
-  module _ {ok : Bool} {number : ℕ} (n : number ≡ takeNumber ok (d .head) (length tray)) (is : ok ≡ sound d) where
+  module _ {ok : Bool} {number : ℕ} (n : number ≡ numberOf (trayRules ok (d .head) (length tray) ++ turnRules (d .head))) (is : ok ≡ sound d) where
     early-is : numberOf early ≡ number
-    unfolding takeNumber early
+    unfolding early
     early-is = sym (n ∙ rw is)
 
     pub take-refused : (number ≡ 0 → ⊥) → outcome (record { answer = answers.Refused number; desk = d }) tray ≡ takeOf d tray
-    unfolding takeOf early value
+    unfolding takeOf early of-place value
     take-refused h =
         call-refused (takeRules d tray) d tray value (takenDesk d (entriesTaken d tray)) (clearedIn tray (turnDesk (d .head))) number
-        (first-of-both early (place-rules (d .head) tray (turnDesk (d .head))) number early-is h) h
+        (first-of-both early of-place number early-is h) h
 
     module _ (z : number ≡ 0) where
       silent : Silent early
@@ -148,13 +139,13 @@ module _ (d : Desk) (tray : List ℕ) where
       take-room e = let there = place-there tray (d .head .n) (turnDesk (d .head)) long desk-below in omega (arith, e, there)
 
       module _ {q : ℕ} (qis : q ≡ turnDesk (d .head)) {l : Looked} (looks : l ≡ lookedAt (d .head) tray q) where
+        place-is : numberOf of-place ≡ l .number
+        unfolding of-place lookedAt
+        place-is = rw (looks, qis)
+
         rest-is : numberOf (takeRules d tray) ≡ l .number
-        unfolding early
-        rest-is =
-            second-of-both early (place-rules (d .head) tray (turnDesk (d .head))) early-numbered (early-is ∙ z)
-            ∙ sym (looked-number (d .head) tray (turnDesk (d .head)))
-            ∙ ap (λ (p : ℕ). lookedAt (d .head) tray p .number) (sym qis)
-            ∙ ap (λ (x : Looked). x .number) (sym looks)
+        unfolding early of-place
+        rest-is = second-of-both early of-place early-numbered (early-is ∙ z) ∙ place-is
 
         pub take-not-there : (l .number ≡ 0 → ⊥) → outcome (record { answer = answers.Refused (l .number); desk = d }) tray ≡ takeOf d tray
         unfolding takeOf value
@@ -166,10 +157,10 @@ module _ (d : Desk) (tray : List ℕ) where
           allowed = take-allows d tray (silent-if-0 (takeRules d tray) take-numbered (rest-is ∙ found))
 
           count : l .entries ≡ trailerIn (sheetAt tray (turnDesk (d .head))) .entries
+          unfolding of-place lookedAt
           count =
-              ap (λ (x : Looked). x .entries) looks
-              ∙ ap (λ (p : ℕ). lookedAt (d .head) tray p .entries) qis
-              ∙ looked-entries (d .head) tray (turnDesk (d .head)) (allowed .holds-good) (allowed .not-free)
+              rw (looks, qis)
+              (changed-if of-place 0 (trailerIn (sheetAt tray (turnDesk (d .head))) .entries) (silent-if-0 of-place of-place-numbered (place-is ∙ found)))
 
           these : entriesIn (drop (start q + 2) tray) (l .entries) ≡ entriesTaken d tray
           these = rw (qis, count) (taken-entries tray (turnDesk (d .head)) (allowed .holds-good))

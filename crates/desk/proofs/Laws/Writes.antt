@@ -14,21 +14,23 @@ use mir.Syntax.{w32}
 use mir.Val.{toZ, ofZ}
 use mir.Facts.{toZ-ofZ}
 use borrow.Author.Tests.{eqb-true, eqb-false, lt-ltb}
-use Rattle.answer.specs.Answer.{Rule, refused, answered, answer}
-use Rattle.answer.specs.Parts.{numberOf, Numbered}
+use Rattle.answer.specs.Answer.{Rule, refused, answered, numberOf}
+use Rattle.answer.specs.Parts.{Numbered}
 use Rattle.answer.proofs.Laws.{silent-if-0, first-if-number, answered-if, changed-if, refused-if, unchanged-if}
 use Rattle.content.specs.declared.Content.{Content}
 use Rattle.content.specs.Content.{kindOf, dayOf}
 use Rattle.cells.specs.Cells.{contentAt, putIf}
 use Rattle.cells.proofs.Laws.{put-off}
 use Rattle.sound.specs.declared.Head.{Head}
+use Rattle.refusals.specs.Rules as rules
+use Rattle.refusals.proofs.Laws.Rules.{open-numbered, write-numbered, read-numbered}
 use Rattle.desk.specs.declared.Desk.{Desk}
 use Rattle.desk.specs.declared.Outcome.{Outcome}
 use Rattle.desk.specs.declared.Answer as declared
 use Rattle.desk.specs.declared.Answer.the-variants as answers
 use Rattle.desk.specs.Answers.{Value, Done, opened, stored, holds, waits, outcome, call}
 use Rattle.desk.specs.Calls.{sound, openRules, blankDesk, freshHead, modeFor, openOf, writeRules, writtenDesk, writeOf, readRules, mustWait, waitingDesk, readOf}
-use Rattle.desk.specs.Parts.{openNumber, writeNumber, readNumber, given, openedHead, waitsFor, waitAt, readAnswer}
+use Rattle.desk.specs.Parts.{given, openedHead, waitsFor, waitAt, readAnswer}
 use Rattle.desk.proofs.Laws.Allowed.{desk-says, open-allows, read-allows}
 use Rattle.desk.proofs.Laws.Steps.{waits-are}
 
@@ -51,7 +53,7 @@ call-refused rules d lent v d′ lent′ k e h =
 
 module _ (d : Desk) (cell : ℕ) (c : Content) where
   numbered : Numbered (writeRules d cell c)
-  numbered = (omega arith, (omega arith, (omega arith, (omega arith, tt))))
+  numbered = write-numbered (sound d) (d .head) cell (kindOf c)
 
   -- with the number n, each store under the test that it is 0
   abbrev made : ℕ → Outcome
@@ -77,12 +79,11 @@ module _ (d : Desk) (cell : ℕ) (c : Content) where
 
   pub written :
       {ok : Bool} {number kind : ℕ} {day : ℤ} {a : declared.Answer} {ks pks : List ℕ} {ds pds : List ℤ}
-      → a ≡ given number answers.Stored → number ≡ writeNumber ok (d .head) cell kind → ok ≡ sound d → kind ≡ kindOf c
+      → a ≡ given number answers.Stored → number ≡ numberOf (rules.writeRules ok (d .head) cell kind) → ok ≡ sound d → kind ≡ kindOf c
       → ks ≡ putIf (eqb number 0) (d .kind) cell kind → ds ≡ putIf (eqb number 0) (d .day) cell day
       → pks ≡ putIf (eqb number 0) (d .pkind) cell kind → pds ≡ putIf (eqb number 0) (d .pday) cell day
       → day ≡ dayOf c
       → outcome (record { answer = a; desk = record { head = d .head; kind = ks; day = ds; pkind = pks; pday = pds } }) [] ≡ writeOf d cell c
-  unfolding writeNumber
   written {number = number} a n s k ks ds pks pds z =
       rw (a, ks, ds, pks, pds, z, k) (write-made number (eqb number 0) refl (sym (n ∙ rw (s, k))))
 
@@ -93,14 +94,10 @@ handed {z = z} h e = toZ-ofZ {w = w32} {z = z} (record { sfits = h }) ∙ e
 -- ---- open
 
 module _ (n m own mode : ℕ) where
-  open-numbered : Numbered (openRules n m own mode)
-  open-numbered = (omega arith, (omega arith, (omega arith, (omega arith, tt))))
-
   -- what an open that is carried out has been given fits a record
-  pub open-fits : {number : ℕ} → number ≡ openNumber n m own mode → number ≡ 0 → (n < 256) × ((m < 256) × ((own < 256) × (mode < 256)))
-  unfolding openNumber
+  pub open-fits : {number : ℕ} → number ≡ numberOf (openRules n m own mode) → number ≡ 0 → (n < 256) × ((m < 256) × ((own < 256) × (mode < 256)))
   open-fits e z =
-      let allowed = open-allows n m own mode (silent-if-0 (openRules n m own mode) open-numbered (sym e ∙ z)) in
+      let allowed = open-allows n m own mode (silent-if-0 (openRules n m own mode) (open-numbered n m own mode) (sym e ∙ z)) in
       (omega (arith, allowed .desks-most), (omega (arith, allowed .cells-most), (omega (arith, allowed .own-below, allowed .desks-most), omega (arith, allowed .mode-most))))
 
   abbrev opened-with : ℕ → Outcome
@@ -109,20 +106,19 @@ module _ (n m own mode : ℕ) where
   open-made : (k : ℕ) (t : Bool) → eqb k 0 ≡ t → numberOf (openRules n m own mode) ≡ k → outcome (opened-with k) [] ≡ openOf n m own mode
   unfolding openOf given openedHead
   open-made k true p e =
-      rw p (call-carried-out (openRules n m own mode) open-numbered (blankDesk (freshHead 0 0 0 0)) [] opened (blankDesk (freshHead n m own (modeFor mode))) [] (e ∙ eqb-true k 0 p))
+      rw p (call-carried-out (openRules n m own mode) (open-numbered n m own mode) (blankDesk (freshHead 0 0 0 0)) [] opened (blankDesk (freshHead n m own (modeFor mode))) [] (e ∙ eqb-true k 0 p))
   open-made k false p e =
       rw p (call-refused (openRules n m own mode) (blankDesk (freshHead 0 0 0 0)) [] opened (blankDesk (freshHead n m own (modeFor mode))) [] k e (eqb-false k 0 p))
 
-  pub opened-so : {number : ℕ} {a : declared.Answer} {h : Head} → a ≡ given number answers.Opened → h ≡ openedHead number n m own mode → number ≡ openNumber n m own mode
+  pub opened-so : {number : ℕ} {a : declared.Answer} {h : Head} → a ≡ given number answers.Opened → h ≡ openedHead number n m own mode → number ≡ numberOf (openRules n m own mode)
       → outcome (record { answer = a; desk = blankDesk h }) [] ≡ openOf n m own mode
-  unfolding openNumber
   opened-so {number = number} a h e = rw (a, h) (open-made number (eqb number 0) refl (sym e))
 
 -- ---- read
 
 module _ (d : Desk) (cell : ℕ) where
-  read-numbered : Numbered (readRules d cell)
-  read-numbered = (omega arith, (omega arith, (omega arith, tt)))
+  some-number : Numbered (readRules d cell)
+  some-number = read-numbered (sound d) (d .head) cell
 
   -- the head with this waiting read
   abbrev withWait : ℕ → Head
@@ -137,7 +133,7 @@ module _ (d : Desk) (cell : ℕ) where
 
   cell-below : numberOf (readRules d cell) ≡ 0 → cell < 64
   cell-below e =
-      let allowed = read-allows d cell (silent-if-0 (readRules d cell) read-numbered e) in
+      let allowed = read-allows d cell (silent-if-0 (readRules d cell) some-number e) in
       omega (arith, allowed .cell-below, desk-says d (allowed .is-sound) .cells-most)
 
   read-made : (k : ℕ) (t u : Bool) → eqb k 0 ≡ t → mustWait d cell ≡ u → numberOf (readRules d cell) ≡ k
@@ -145,19 +141,18 @@ module _ (d : Desk) (cell : ℕ) where
   unfolding readOf given readAnswer waitAt
   read-made k true true p q e =
       rw (p, q, lt-ltb cell 64 (cell-below (e ∙ eqb-true k 0 p)))
-      (call-carried-out (readRules d cell) read-numbered d [] waits (waitingDesk d cell) [] (e ∙ eqb-true k 0 p))
+      (call-carried-out (readRules d cell) some-number d [] waits (waitingDesk d cell) [] (e ∙ eqb-true k 0 p))
   read-made k true false p q e =
-      rw (p, q) (call-carried-out (readRules d cell) read-numbered d [] (holds (contentAt (d .kind) (d .day) cell)) d [] (e ∙ eqb-true k 0 p))
+      rw (p, q) (call-carried-out (readRules d cell) some-number d [] (holds (contentAt (d .kind) (d .day) cell)) d [] (e ∙ eqb-true k 0 p))
   read-made k false u p q e =
       rw p
       (call-refused (readRules d cell) d [] (cond (mustWait d cell) waits (holds (contentAt (d .kind) (d .day) cell))) (cond (mustWait d cell) (waitingDesk d cell) d) [] k e (eqb-false k 0 p))
 
   pub read-so :
       {ok w : Bool} {number wait : ℕ} {c : Content} {a b : declared.Answer}
-      → a ≡ given number b → b ≡ readAnswer w c → wait ≡ waitAt w (d .head .wait) cell → number ≡ readNumber ok (d .head) cell → ok ≡ sound d
+      → a ≡ given number b → b ≡ readAnswer w c → wait ≡ waitAt w (d .head .wait) cell → number ≡ numberOf (rules.readRules ok (d .head) cell) → ok ≡ sound d
       → w ≡ (eqb number 0 && waitsFor (d .head) (d .pkind) cell) → c ≡ contentAt (d .kind) (d .day) cell
       → outcome (record { answer = a; desk = record { head = withWait wait; kind = d .kind; day = d .day; pkind = d .pkind; pday = d .pday } }) [] ≡ readOf d cell
-  unfolding readNumber
   read-so {number = number} a b t n s w c =
       rw (a, b, t, c, w, waits-are d cell) (read-made number (eqb number 0) (mustWait d cell) refl refl (sym (n ∙ rw s)))
 

@@ -26,9 +26,10 @@ use Rattle.cells.proofs.Laws.{no-place}
 use Rattle.sound.specs.Head.{turnDesk, ownTurn, readWaits}
 use Rattle.sound.proofs.Laws.Sound.{Sound}
 use Rattle.pending.specs.Pending.{entryIn, pendingBelow, pendingEntries, sheetOf}
+use Rattle.refusals.specs.Rules.{lastTurn}
 use Rattle.desk.specs.declared.Desk.{Desk}
 use Rattle.desk.specs.Answers.{Value, sent}
-use Rattle.desk.specs.Calls.{lastTurn, sendRules, sentDesk, sendOf}
+use Rattle.desk.specs.Calls.{sendRules, sentDesk, sendOf}
 use Rattle.desk.specs.Values.{DeskFits}
 use Rattle.desk.proofs.Laws.Allowed.{desk-says, send-allows}
 use Rattle.keeping.proofs.Laws.Sheets.{sheet-read, sheet-entries}

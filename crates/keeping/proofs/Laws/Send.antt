@@ -20,9 +20,10 @@ use Rattle.sound.specs.Head.{ownTurn}
 use Rattle.sound.proofs.Laws.Sound.{Sound}
 use Rattle.pending.specs.Pending.{pendingEntries, sheetOf}
 use Rattle.pending.proofs.Laws.Sending.{sheet-most}
+use Rattle.refusals.specs.Rules.{lastTurn}
 use Rattle.desk.specs.declared.Desk.{Desk}
 use Rattle.desk.specs.Answers.{sent}
-use Rattle.desk.specs.Calls.{sound, sendRules, sentDesk, sendOf, lastTurn}
+use Rattle.desk.specs.Calls.{sound, sendRules, sentDesk, sendOf}
 use Rattle.desk.specs.Values.{DeskFits}
 use Rattle.desk.proofs.Laws.Allowed.{desk-says, send-allows}
 use Rattle.keeping.specs.Promises.{KeptSound, KeptFits}

@@ -24,8 +24,8 @@ use Rattle.sound.proofs.Laws.Sound.{Sound}
 use Rattle.sound.proofs.Laws.Days.{same-day}
 use Rattle.pending.specs.Pending.{pendingEntries, numbersFor, sheetOf}
 use Rattle.pending.proofs.Laws.Good.{FairPlaces, FairHead, sheet-is-good, sheet-reads-back}
+use Rattle.refusals.specs.Rules.{lastTurn}
 use Rattle.desk.specs.declared.Desk.{Desk}
-use Rattle.desk.specs.Calls.{lastTurn}
 use Rattle.desk.specs.Values.{DeskFits}
 
 open-day : (kind : ℕ) (day : ℤ) → dayFits kind day ≡ true → kind ≡ 1 → day ≡ pos 0

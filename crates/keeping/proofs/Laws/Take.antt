@@ -38,8 +38,9 @@ use Rattle.tray.specs.Tray.{lengthAt, start, sheetAt, clearedIn}
 use Rattle.tray.proofs.Laws.Places.{holds-says, cleared-long}
 use Rattle.applying.specs.Applying.{goes, laid, kindOn, dayOn}
 use Rattle.applying.proofs.Laws.{Every, laid-length, laid-every}
+use Rattle.refusals.specs.Rules.{lastTurn}
 use Rattle.desk.specs.declared.Desk.{Desk}
-use Rattle.desk.specs.Calls.{sound, lastTurn, nextHead, takeRules, entriesTaken, readEnds, takenDesk, takeOf}
+use Rattle.desk.specs.Calls.{sound, nextHead, takeRules, entriesTaken, readEnds, takenDesk, takeOf}
 use Rattle.desk.specs.Values.{DeskFits}
 use Rattle.desk.proofs.Laws.Allowed.{desk-says, take-allows}
 use Rattle.keeping.specs.Promises.{KeptSound, KeptFits}

@@ -27,9 +27,10 @@ use Rattle.tray.proofs.Laws.Places.{holds-not-free}
 use Rattle.pending.specs.Pending.{pendingEntries}
 use Rattle.pending.proofs.Laws.Sending.{sheet-most}
 use Rattle.applying.specs.Applying.{goes, wentOf}
+use Rattle.refusals.specs.Rules.{lastTurn}
 use Rattle.desk.specs.declared.Desk.{Desk}
 use Rattle.desk.specs.Answers.{Value, sent, held, taken}
-use Rattle.desk.specs.Calls.{lastTurn, sendRules, sendOf, deliverRules, takeRules, entriesTaken, takenDesk, waitedFor, takeOf}
+use Rattle.desk.specs.Calls.{sendRules, sendOf, deliverRules, takeRules, entriesTaken, takenDesk, waitedFor, takeOf}
 use Rattle.desk.proofs.Laws.Allowed.{SendAllowed, send-if, TakeAllowed, take-if}
 use Rattle.runs.specs.Calls.{document01, delivers, takes}
 use Rattle.runs.specs.Run.{Shelf, Sheet, sheetOn, State, sheetNo, made, put, after}

@@ -1,0 +1,3 @@
+pub mod Next
+pub mod Looks
+pub mod Rules

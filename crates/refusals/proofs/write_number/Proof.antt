@@ -1,0 +1,29 @@
+-- `write_number` meets its contract: one rule before the next.
+-- Assumes nothing.
+use borrow.Author.Needs.{needs}
+use Rattle.refusals.proofs.Laws.Rules.{numbers}
+use Rattle.refusals.proofs.write_number.Statement.{statement}
+use Rattle.refusals.proofs.write_number.Tie as tie
+
+first-requires : tie.Need-first-requires
+first-requires c κs = search needs
+
+first-requires-2 : tie.Need-first-requires-2
+first-requires-2 c κs = search needs
+
+cast-first : tie.Need-cast-first
+cast-first c = search needs
+
+first-requires-3 : tie.Need-first-requires-3
+first-requires-3 c κs = search needs
+
+first-requires-4 : tie.Need-first-requires-4
+first-requires-4 c κs = search needs
+
+returns : tie.Need-returns
+returns c = search (numbers, needs)
+
+pub write-number-spec : {M : Type 1} → statement M
+write-number-spec =
+    tie.close
+    (tie.spec first-requires first-requires-2 cast-first first-requires-3 first-requires-4 returns)
