@@ -8,12 +8,12 @@ use Prim.Native.String.{String}
 use lib.IntN.{ℤ, pos, negsuc}
 use mir.Syntax.{w32}
 use mir.Val.{SFits}
-use Rattle.acting.specs.Step.{writes, reads, sends, delivers, takes, Step}
+use Rattle.schedule.specs.Step.{writes, reads, sends, delivers, takes, Step}
 use Rattle.content.specs.declared.Content.{Content}
 use Rattle.content.specs.declared.Content.the-variants.{Open, Day}
 use Rattle.content.specs.Content.{dayOf}
 use Rattle.text.specs.Text.{text}
-use Rattle.text.specs.Parts.{space}
+use Rattle.text.specs.Separated.{space}
 use Rattle.text.specs.Decimal.{decimal, signedDecimal}
 use Rattle.schedule.specs.Lines.{Line, ended, cut}
 use Rattle.schedule.specs.Start.{startIn}

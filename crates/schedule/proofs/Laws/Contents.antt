@@ -21,7 +21,7 @@ use Rattle.content.specs.declared.Content.{Content}
 use Rattle.content.specs.declared.Content.the-variants.{Blank, Open, Day}
 use Rattle.numbers.specs.Limits.{within}
 use Rattle.text.specs.declared.Decimal.{Decimal}
-use Rattle.text.specs.Parts.{firstPart, space}
+use Rattle.text.specs.Separated.{firstPart, space}
 use Rattle.text.specs.Decimal.{isDecimal, valueFrom, value, beyond, decimalAt}
 use Rattle.text.proofs.Laws.Decimal.{and-split}
 use Rattle.text.proofs.Laws.Parts.{empty, part-room, part-goes-on, part-on}

@@ -3,7 +3,7 @@
 --   each-form-reads : EachForm, edges-read : AtTheEdges, other-forms : OtherForms, each by computing
 -- Assumes nothing.
 use mathlib.Core.Path.{refl}
-use Rattle.text.specs.Parts.{parts}
+use Rattle.text.specs.Separated.{parts}
 use Rattle.text.specs.Decimal.{isDecimal, valueFrom, value}
 use Rattle.schedule.specs.Words.{is, isNumber, isDesk, isDay, dayIn, isContent, contentIn}
 use Rattle.schedule.specs.Start.{isMode, modeIn, startIn}

@@ -15,11 +15,11 @@ use lib.IntN.{ℤ, pos, negsuc}
 use borrow.Author.Tests.{le-leb, lt-ltb, leb-true, ne-eqb, not-true}
 use mir.Syntax.{w32}
 use mir.Val.{SFits}
-use Rattle.acting.specs.Step.{writes}
+use Rattle.schedule.specs.Step.{writes}
 use Rattle.content.specs.declared.Content.the-variants.{Day}
 use Rattle.text.specs.Text.{text}
-use Rattle.text.specs.Parts.{parts, space}
-use Rattle.text.specs.Decimal.{isDigit, digits, isDecimal, value, decimal, leading, signedDecimal}
+use Rattle.text.specs.Separated.{parts, space}
+use Rattle.text.specs.Decimal.{isDigit, digits, isDecimal, value, decimal, noLeadingZero, signedDecimal}
 use Rattle.text.specs.Promises.{ReadsBack}
 use Rattle.text.proofs.Laws.Decimal.{and-split, decimal-is}
 use Rattle.text.proofs.Laws.ReadBack.{printed-reads-back}
@@ -76,7 +76,7 @@ module _ (k : ℕ) (small : k ≤ 4294967295) where
   back = printed-reads-back k (omega arith)
 
   number-free : free (decimal k) ≡ true
-  number-free = digits-free (decimal k) (and-split (leading (decimal k)) (digits (decimal k)) (sym (decimal-is (decimal k)) ∙ back .is-decimal) .1)
+  number-free = digits-free (decimal k) (and-split (noLeadingZero (decimal k)) (digits (decimal k)) (sym (decimal-is (decimal k)) ∙ back .is-decimal) .1)
 
   number-said : isNumber (decimal k) ≡ true
   unfolding isNumber

@@ -8,7 +8,7 @@ use mathlib.Core.Option.{Option, none, some}
 use Prim.Native.Nat.{ℕ, _+_}
 use lib.Dec.{leb, ltb}
 use lib.ListN.{length}
-use Rattle.text.specs.Parts.{space}
+use Rattle.text.specs.Separated.{space}
 use Rattle.text.specs.Decimal.{value}
 use Rattle.text.proofs.Laws.Parts.{parts-on}
 use Rattle.schedule.specs.declared.words.Number.{Number}

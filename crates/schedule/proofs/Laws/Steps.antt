@@ -15,16 +15,17 @@ use lib.Dec.{eqb, leb, ltb}
 use borrow.Author.Tests.{ltb-true, leb-true}
 use mir.Syntax.{w32}
 use mir.Val.{SFits}
-use Rattle.acting.specs.Step.{writes, reads, sends, delivers, takes, Step}
+use Rattle.schedule.specs.Step.{writes, reads, sends, delivers, takes, Step}
 use Rattle.content.specs.declared.Content.{Content}
 use Rattle.content.specs.declared.Content.the-variants.{Open, Day}
 use Rattle.content.specs.Content.{dayOf}
 use Rattle.numbers.specs.Limits.{within}
+use Rattle.text.specs.Separated.{minus}
 use Rattle.text.specs.Decimal.{isDecimal, value}
 use Rattle.text.proofs.Laws.Decimal.{and-split}
 use Rattle.schedule.specs.Lines.{Line, ended, cut}
-use Rattle.schedule.specs.Words.{words, is, isNumber, isDesk, minus, isDay, dayIn, isContent, contentIn}
-use Rattle.schedule.specs.Step.{writeIn, readIn, deliverIn, actIn, stepOf, stepIn}
+use Rattle.schedule.specs.Words.{words, is, isNumber, isDesk, isDay, dayIn, isContent, contentIn}
+use Rattle.schedule.specs.Step.{writeIn, readIn, deliverIn, deskIn, stepOf, stepIn}
 use Rattle.schedule.specs.Promises.{Fair}
 
 -- ---- words
@@ -115,14 +116,14 @@ module _ (n : ℕ) (step : Step) where
       }) e
   deliver-fair (q ∷ p ∷ word ∷ ws) e = nothing e
 
-  send-fair : (ws : List (List ℕ)) → actIn n sends ws ≡ some step → Fair n step
+  send-fair : (ws : List (List ℕ)) → deskIn n sends ws ≡ some step → Fair n step
   send-fair [] e = nothing e
   send-fair (p ∷ []) e =
       if-so (isDesk n p) (record { desk = value p; act = sends }) (λ t.
       record { desk = desk-below n p t; sender = λ q s. apart (cc); day = λ k x s. apart (cc) }) e
   send-fair (p ∷ word ∷ ws) e = nothing e
 
-  take-fair : (ws : List (List ℕ)) → actIn n takes ws ≡ some step → Fair n step
+  take-fair : (ws : List (List ℕ)) → deskIn n takes ws ≡ some step → Fair n step
   take-fair [] e = nothing e
   take-fair (p ∷ []) e =
       if-so (isDesk n p) (record { desk = value p; act = takes }) (λ t.

@@ -19,7 +19,7 @@ use lib.Dec.{eqb, leb, ltb}
 use lib.ListN.{length, getD, drop, List·getD-eq-default}
 use borrow.Author.Tests.{ltb-true, ltb-false, leb-true, leb-false, le-leb, lt-leb, ne-eqb}
 use Rattle.text.specs.declared.Decimal.{Decimal}
-use Rattle.text.specs.Parts.{firstPart, space}
+use Rattle.text.specs.Separated.{firstPart, space}
 use Rattle.text.specs.Decimal.{isDecimal, value, beyond, decimalAt}
 use Rattle.text.proofs.Laws.Decimal.{and-split}
 use Rattle.text.proofs.Laws.Parts.{empty, part-room, part-goes-on}
