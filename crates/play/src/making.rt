@@ -68,7 +68,7 @@ fn deliver(d: Desk, q: u8, tray: &mut [u8], latest: &[u8]) -> StepOutcome
     of_call(d.deliver(tray, &latest[from..from + len]))
 }
 
-// What desk p is to do.
+// The step of desk p that this act is.
 pub(crate) fn make(d: Desk, p: u32, act: Act, tray: &mut [u8], latest: &mut [u8]) -> StepOutcome
     requires { ⌜ p < 16 ⌝ }
     requires { ⌜ SenderThere 16 act ⌝ }

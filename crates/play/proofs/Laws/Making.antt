@@ -2,7 +2,7 @@
 --   sent-room                     a sheet that was sent has room in what was lent
 --   sends, delivering, makes      sets for `search`, one for each function
 -- Assumes nothing.
-use Prim.Native.Nat.{ℕ, _+_, _*_, _-_, _≤_, _<_}
+use Prim.Native.Nat.{ℕ, _+_, _*_, _-_, _≤_}
 use mathlib.Core.Path.{_≡_, refl, sym, ap, _∙_, subst}
 use mathlib.Core.Bool.{Bool, true, false, cond}
 use mathlib.Core.List.{List, [], _∷_, _++_}
@@ -14,7 +14,7 @@ use denote.Enum.Declared.{tagOf}
 use mir.Syntax.{w8}
 use mir.Val.{Fits}
 use borrow.Author.Tests.{eq-eqb, ne-eqb}
-use Rattle.answer.specs.Answer.{Answer, refused, answered}
+use Rattle.answer.specs.Answer.{Answer, answered}
 use Rattle.content.specs.declared.Content.{Content}
 use Rattle.tray.specs.Tray.{free, sheetAt, lengthAt, heldIn}
 use Rattle.pending.specs.Pending.{pendingEntries, sheetOf}
@@ -24,7 +24,7 @@ use Rattle.desk.specs.declared.Outcome.{Outcome}
 use Rattle.desk.specs.declared.Answer as declared
 use Rattle.desk.specs.declared.Answer.the-variants as cases
 use Rattle.desk.proofs.Answer as answer
-use Rattle.desk.specs.Answers.{Value, opened, stored, holds, waits, sent, held, taken, Done, said, outcome}
+use Rattle.desk.specs.Answers.{Value, sent, Done, said, outcome}
 use Rattle.desk.specs.Calls.{writeOf, readOf, sendRules, sentDesk, sendOf, deliverOf, takeOf}
 use Rattle.runs.specs.Run.{Sheet, sheetLeft}
 use Rattle.runs.proofs.Laws.Steps.{by-call}

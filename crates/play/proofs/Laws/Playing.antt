@@ -29,7 +29,7 @@ use Rattle.schedule.proofs.Laws.Steps.{desk-is-there, sender-is-there}
 use Rattle.printing.specs.StepAnswer.{StepAnswer, badLine, saidStepAnswer}
 use Rattle.printing.specs.Printing.{Wrote, wrote, lineText}
 use Rattle.play.specs.declared.making.StepOutcome.{StepOutcome}
-use Rattle.play.specs.Steps.{stepAnswer, afterStep}
+use Rattle.play.specs.Steps.{afterStep}
 use Rattle.play.specs.Rounds.{answersThen, stepAnswers, numbered}
 use Rattle.play.specs.Parts.Making.{stepOutcome, makeOf, SenderThere}
 use Rattle.play.specs.Parts.Running.{noDesk, AllOpened, clearTrays, noSheets, stepAt, Runs, runOf, Ran}

@@ -6,7 +6,7 @@
 use Prim.Native.Nat.{ℕ, zero, suc, _+_, _*_, _<_, _≤_}
 use mathlib.Core.Path.{_≡_, refl, sym, ap, _∙_, subst}
 use mathlib.Core.List.{List, []}
-use mathlib.Core.Option.{Option, none, some}
+use mathlib.Core.Option.{Option}
 use native.Mathlib.Omega.{arith}
 use native.Mathlib.Decide.{ℕ-discrete}
 use lib.ListN.{length, getD, set, drop, replicate, length-set, length-drop, length-replicate}

@@ -6,7 +6,7 @@ use mathlib.Core.Path.{refl}
 use Rattle.text.specs.Separated.{parts}
 use Rattle.text.specs.Decimal.{isDecimal, valueFrom, value}
 use Rattle.schedule.specs.Words.{is, isNumber, isDesk, isDay, dayIn, isContent, contentIn}
-use Rattle.schedule.specs.Start.{isMode, modeIn, startIn}
+use Rattle.schedule.specs.Start.{modeIn, startIn}
 use Rattle.schedule.specs.Step.{stepIn}
 use Rattle.schedule.specs.Promises.{StepsAreFair, EachForm, AtTheEdges, OtherForms}
 use Rattle.schedule.proofs.Laws.Steps.{fair}
@@ -15,11 +15,11 @@ pub steps-are-fair : StepsAreFair
 steps-are-fair n l step says = fair n step l says
 
 pub each-form-reads : EachForm
-unfolding parts isDecimal valueFrom value is isNumber isDesk isDay dayIn isContent contentIn isMode modeIn startIn stepIn
+unfolding parts isDecimal valueFrom value is isNumber isDesk isDay dayIn isContent contentIn modeIn startIn stepIn
 each-form-reads = record { start = refl; step-1 = refl; step-2 = refl; step-4 = refl; step-5 = refl; step-6 = refl; step-8 = refl }
 
 pub edges-read : AtTheEdges
-unfolding parts isDecimal valueFrom value is isNumber isDesk isDay dayIn isContent contentIn isMode modeIn startIn stepIn
+unfolding parts isDecimal valueFrom value is isNumber isDesk isDay dayIn isContent contentIn modeIn startIn stepIn
 edges-read = record { greatest-cell = refl; greatest-day = refl; least-day = refl; default-mode = refl }
 
 pub other-forms : OtherForms

@@ -278,17 +278,17 @@ unfolding is
 step-by-letter n word rest = rw (letter-is 119 refl word, letter-is 114 refl word, letter-is 115 refl word, letter-is 100 refl word, letter-is 116 refl word)
 
 -- where no word comes behind the letter, the place behind it has an empty one, which says as little
-module _ (line : List ℕ) (end : ℕ) (said : List (List ℕ) → Option Step) where
-  rest-of : said [] ≡ said ([] ∷ []) → said (cond (ltb end (length line)) (wordsAt line (end + 1)) []) ≡ said (wordsAt line (end + 1))
+module _ (line : List ℕ) (end : ℕ) (step-of : List (List ℕ) → Option Step) where
+  rest-of : step-of [] ≡ step-of ([] ∷ []) → step-of (cond (ltb end (length line)) (wordsAt line (end + 1)) []) ≡ step-of (wordsAt line (end + 1))
   unfolding parts
   rest-of empty-word = by-test (ltb end (length line)) refl
     where
-      by-test : (t : Bool) → ltb end (length line) ≡ t → said (cond t (wordsAt line (end + 1)) []) ≡ said (wordsAt line (end + 1))
+      by-test : (t : Bool) → ltb end (length line) ≡ t → step-of (cond t (wordsAt line (end + 1)) []) ≡ step-of (wordsAt line (end + 1))
       by-test true e = refl
       by-test false e =
           let short : length line ≤ end = ltb-false end (length line) e in
           let past : length line ≤ end + 1 = omega arith in
-          empty-word ∙ ap (λ (l : List ℕ). said (parts space l)) (sym (drop-of-length-le line past))
+          empty-word ∙ ap (λ (l : List ℕ). step-of (parts space l)) (sym (drop-of-length-le line past))
 
 module _ (line : List ℕ) (n : ℕ) (first : Letter) (first-is : first ≡ letterAt line 0) where
   abbrev rest : List (List ℕ)

@@ -99,11 +99,11 @@ first-digit b bs t =
     let digit = and-split (leb 48 b) (leb b 57) (and-split (isDigit b) (digits bs) all .0) in
     (leb-true 48 b (digit .0), leb-true b 57 (digit .1))
 
-record Said (word : List ℕ) (d : ℤ) : Type 0 where
+record SaysDay (word : List ℕ) (d : ℤ) : Type 0 where
   pub content : isContent word ≡ true
   pub day : contentIn word ≡ Day d
 
-plain-said : (word : List ℕ) → isDecimal word ≡ true → value word ≤ 2147483647 → Said word (pos (value word))
+plain-said : (word : List ℕ) → isDecimal word ≡ true → value word ≤ 2147483647 → SaysDay word (pos (value word))
 unfolding isContent contentIn isDay dayIn is
 plain-said [] t small = absurd (no-decimal t)
 plain-said (b ∷ bs) t small =
@@ -115,7 +115,7 @@ plain-said (b ∷ bs) t small =
       day = rw (no-o, no-minus);
     }
 
-minus-said : (word : List ℕ) → isDecimal word ≡ true → 1 ≤ value word → value word ≤ 2147483648 → Said (45 ∷ word) (negsuc (value word - 1))
+minus-said : (word : List ℕ) → isDecimal word ≡ true → 1 ≤ value word → value word ≤ 2147483648 → SaysDay (45 ∷ word) (negsuc (value word - 1))
 unfolding isContent contentIn isDay dayIn is
 minus-said word t least most =
     record {
@@ -123,16 +123,16 @@ minus-said word t least most =
       day = refl;
     }
 
-day-said : (d : ℤ) → SFits w32 d → Said (signedDecimal d) d
+day-said : (d : ℤ) → SFits w32 d → SaysDay (signedDecimal d) d
 day-said (pos k) fits =
     let small : k ≤ 2147483647 = omega arith in
     let reads = back k (omega arith) in
-    subst (λ (v : ℕ). Said (decimal k) (pos v)) (reads .same-number) (plain-said (decimal k) (reads .is-decimal) (omega (arith, reads .same-number)))
+    subst (λ (v : ℕ). SaysDay (decimal k) (pos v)) (reads .same-number) (plain-said (decimal k) (reads .is-decimal) (omega (arith, reads .same-number)))
 day-said (negsuc k) fits =
     let small : k ≤ 2147483647 = omega arith in
     let reads = back (suc k) (omega arith) in
     let one-less : value (decimal (suc k)) - 1 ≡ k = omega (arith, reads .same-number) in
-    subst (λ (v : ℕ). Said (45 ∷ decimal (suc k)) (negsuc v)) one-less
+    subst (λ (v : ℕ). SaysDay (45 ∷ decimal (suc k)) (negsuc v)) one-less
     (minus-said (decimal (suc k)) (reads .is-decimal) (omega (arith, reads .same-number)) (omega (arith, reads .same-number)))
 
 day-free : (d : ℤ) → SFits w32 d → free (signedDecimal d) ≡ true
