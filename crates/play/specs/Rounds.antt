@@ -26,8 +26,8 @@ tooLong input = ltb 16384 (length input) || ltb 1001 (length (linesOf input))
 
 -- ---- the steps
 
--- what a line's step comes to, and those of the rest; a bad line, "A line of another form, a number beyond 32 bits .., or a desk that isn't there,
--- prints its step number and `bad line` and ends the run"
+-- what a line's step comes to, and what those of the rest do. A bad line is one that says no step: "A line of another form, a number beyond 32 bits ..,
+-- or a desk that isn't there, prints its step number and `bad line` and ends the run"
 abbrev pub answersThen : State → Option Step → (State → List StepAnswer) → List StepAnswer
 answersThen s none rest = badLine ∷ []
 answersThen s (some step) rest = stepAnswer s step ∷ rest (afterStep s step)

@@ -27,15 +27,17 @@ FirstAsAll = (n m mode p : ℕ) → p < n → openOf n m p mode .answer ≡ open
 
 -- ---- the steps
 
--- the calls that the steps of lines are, from s on, up to the first bad line; `d` "before the sender has sent" is none
+-- the call that a step is, and those of the rest; `d` "before the sender has sent" is none
 abbrev pub callsThen : State → Option Call → (State → List Call) → List Call
 callsThen s none rest = rest s
 callsThen s (some c) rest = c ∷ rest (after document01 s c)
 
+-- a bad line ends the run
 abbrev pub stepThen : State → Option Step → (State → List Call) → List Call
 stepThen s none rest = []
 stepThen s (some step) rest = callsThen s (callOf s step) rest
 
+-- the calls that the steps of lines are, from s on
 unfoldable pub callsIn : ℕ → State → List Line → List Call
 callsIn n s [] = []
 callsIn n s (line ∷ lines) = stepThen s (stepIn n line) (λ t. callsIn n t lines)
