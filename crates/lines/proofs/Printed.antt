@@ -18,7 +18,7 @@ use Rattle.content.specs.declared.Content.{Content}
 use Rattle.content.specs.declared.Content.the-variants.{Blank, Open, Day}
 use Rattle.desk.specs.Answers.{Value, opened, stored, holds, waits, sent, held, taken}
 use Rattle.text.specs.Text.{text}
-use Rattle.text.specs.Parts.{parts, space}
+use Rattle.text.specs.Separated.{parts, space}
 use Rattle.text.specs.Decimal.{value, decimal, signedDecimal}
 use Rattle.schedule.specs.Words.{is, contentIn}
 use Rattle.printing.specs.Printing.{contentText, answerText}

@@ -2,19 +2,19 @@
 --   each-form-reads : EachForm, edges-read : AtTheEdges, other-forms : OtherForms, other-starts : OtherStarts
 -- Assumes nothing.
 use mathlib.Core.Path.{refl}
-use Rattle.text.specs.Parts.{parts}
+use Rattle.text.specs.Separated.{parts}
 use Rattle.text.specs.Decimal.{isDecimal, valueFrom, value}
 use Rattle.schedule.specs.Words.{is, isNumber, isDesk, isDay, dayIn, isContent, contentIn}
-use Rattle.schedule.specs.Start.{isMode, modeIn, startIn}
+use Rattle.schedule.specs.Start.{modeIn, startIn}
 use Rattle.schedule.specs.Step.{stepIn}
 use Rattle.lines.specs.Samples.{EachForm, AtTheEdges, OtherForms, OtherStarts}
 
 pub each-form-reads : EachForm
-unfolding parts isDecimal valueFrom value is isNumber isDesk isDay dayIn isContent contentIn isMode modeIn startIn stepIn
+unfolding parts isDecimal valueFrom value is isNumber isDesk isDay dayIn isContent contentIn modeIn startIn stepIn
 each-form-reads = record { start = refl; step-1 = refl; step-2 = refl; step-4 = refl; step-5 = refl; step-6 = refl; step-8 = refl }
 
 pub edges-read : AtTheEdges
-unfolding parts isDecimal valueFrom value is isNumber isDesk isDay dayIn isContent contentIn isMode modeIn startIn stepIn
+unfolding parts isDecimal valueFrom value is isNumber isDesk isDay dayIn isContent contentIn modeIn startIn stepIn
 edges-read =
     record { greatest-cell = refl; greatest-day = refl; least-day = refl; greatest-start = refl; least-start = refl; default-mode = refl }
 
@@ -41,7 +41,7 @@ other-forms =
     }
 
 pub other-starts : OtherStarts
-unfolding parts isDecimal valueFrom value is isNumber isMode modeIn startIn
+unfolding parts isDecimal valueFrom value is isNumber modeIn startIn
 other-starts =
     record {
       nothing-at-all = refl;

@@ -19,44 +19,52 @@ use Rattle.schedule.specs.declared.Start as declared
 use Rattle.schedule.specs.declared.Start.the-variants as start
 use Rattle.schedule.specs.Lines.{Line, ended, cut}
 use Rattle.schedule.specs.Words.{words, is, isNumber}
-use Rattle.schedule.specs.Start.{Start, isMode, modeIn, startOf, startIn, saidStart}
+use Rattle.schedule.specs.Start.{Start, modeIn, startWith, startOf, startIn, saidStart}
 use Rattle.lines.specs.Line.{spaced, modeWord, startLine}
 use Rattle.lines.specs.Promises.{StartInRange, StartsAreInRange, OneLinePerStart, EveryStartHasALine, StartsApart}
 use Rattle.lines.proofs.Words.{apart, free, words-spaced, spaced-words, word-is, number-most, number-word, number-back, number-free, number-said}
 
 -- ---- the mode's letter
 
-record ModeRead (word : List ℕ) : Type 0 where
-  pub most : modeIn word ≤ 3
-  pub written : word ≡ modeWord (modeIn word)
+record ModeRead (word : List ℕ) (mode : ℕ) : Type 0 where
+  pub most : mode ≤ 3
+  pub written : word ≡ modeWord mode
 
-mode-read : (word : List ℕ) → isMode word ≡ true → ModeRead word
-unfolding isMode modeIn
-mode-read word t = by-letter (is "s" word) (is "c" word) (is "k" word) (is "-" word) refl refl refl refl
+same-mode : (a b : ℕ) → _≡_ {A = Option ℕ} (some a) (some b) → a ≡ b
+same-mode a b e = cc
+
+mode-read : (word : List ℕ) (mode : ℕ) → modeIn word ≡ some mode → ModeRead word mode
+unfolding modeIn
+mode-read word mode e = by-letter (is "s" word) (is "c" word) (is "k" word) (is "-" word) refl refl refl refl
   where
-    by-letter : (s c k d : Bool) → is "s" word ≡ s → is "c" word ≡ c → is "k" word ≡ k → is "-" word ≡ d → ModeRead word
-    by-letter true c k d s-is c-is k-is d-is = record { most = rw s-is (omega arith); written = rw s-is (word-is "s" word s-is) }
-    by-letter false true k d s-is c-is k-is d-is = record { most = rw (s-is, c-is) (omega arith); written = rw (s-is, c-is) (word-is "c" word c-is) }
-    by-letter false false true d s-is c-is k-is d-is = record { most = rw (s-is, c-is, k-is) (omega arith); written = rw (s-is, c-is, k-is) (word-is "k" word k-is) }
-    by-letter false false false true s-is c-is k-is d-is = record { most = rw (s-is, c-is, k-is) (omega arith); written = rw (s-is, c-is, k-is) (word-is "-" word d-is) }
-    by-letter false false false false s-is c-is k-is d-is = absurd (false≢true (rw (s-is, c-is, k-is, d-is) at t))
+    by-letter : (s c k d : Bool) → is "s" word ≡ s → is "c" word ≡ c → is "k" word ≡ k → is "-" word ≡ d → ModeRead word mode
+    by-letter true c k d s-is c-is k-is d-is =
+        subst (ModeRead word) (same-mode 1 mode (rw s-is at e)) (record { most = omega arith; written = word-is "s" word s-is })
+    by-letter false true k d s-is c-is k-is d-is =
+        subst (ModeRead word) (same-mode 2 mode (rw (s-is, c-is) at e)) (record { most = omega arith; written = word-is "c" word c-is })
+    by-letter false false true d s-is c-is k-is d-is =
+        subst (ModeRead word) (same-mode 3 mode (rw (s-is, c-is, k-is) at e)) (record { most = omega arith; written = word-is "k" word k-is })
+    by-letter false false false true s-is c-is k-is d-is =
+        subst (ModeRead word) (same-mode 0 mode (rw (s-is, c-is, k-is, d-is) at e)) (record { most = omega arith; written = word-is "-" word d-is })
+    by-letter false false false false s-is c-is k-is d-is =
+        let no : _≡_ {A = Option ℕ} none (some mode) = rw (s-is, c-is, k-is, d-is) at e in
+        apart (cc)
 
 record ModeSaid (mode : ℕ) : Type 0 where
-  pub is-mode : isMode (modeWord mode) ≡ true
-  pub same-mode : modeIn (modeWord mode) ≡ mode
+  pub says-it : modeIn (modeWord mode) ≡ some mode
   pub without-spaces : free (modeWord mode) ≡ true
 
 mode-said : (mode : ℕ) → mode ≤ 3 → ModeSaid mode
-unfolding isMode modeIn is
+unfolding modeIn is
 mode-said mode most = by-tests (eqb mode 1) (eqb mode 2) (eqb mode 3) refl refl refl
   where
     by-tests : (s c k : Bool) → eqb mode 1 ≡ s → eqb mode 2 ≡ c → eqb mode 3 ≡ k → ModeSaid mode
-    by-tests true c k s-is c-is k-is = rw (eqb-true mode 1 s-is) (record { is-mode = refl; same-mode = refl; without-spaces = refl })
-    by-tests false true k s-is c-is k-is = rw (eqb-true mode 2 c-is) (record { is-mode = refl; same-mode = refl; without-spaces = refl })
-    by-tests false false true s-is c-is k-is = rw (eqb-true mode 3 k-is) (record { is-mode = refl; same-mode = refl; without-spaces = refl })
+    by-tests true c k s-is c-is k-is = rw (eqb-true mode 1 s-is) (record { says-it = refl; without-spaces = refl })
+    by-tests false true k s-is c-is k-is = rw (eqb-true mode 2 c-is) (record { says-it = refl; without-spaces = refl })
+    by-tests false false true s-is c-is k-is = rw (eqb-true mode 3 k-is) (record { says-it = refl; without-spaces = refl })
     by-tests false false false s-is c-is k-is =
         let zero : mode ≡ 0 = omega (arith, eqb-false mode 1 s-is, eqb-false mode 2 c-is, eqb-false mode 3 k-is) in
-        rw zero (record { is-mode = refl; same-mode = refl; without-spaces = refl })
+        rw zero (record { says-it = refl; without-spaces = refl })
 
 -- ---- read
 
@@ -73,15 +81,22 @@ module _ (x : Start) where
   tells [] e = apart (cc)
   tells (n ∷ []) e = apart (cc)
   tells (n ∷ m ∷ []) e = apart (cc)
-  tells (n ∷ m ∷ mode ∷ []) e =
-      if-so _ (isNumber n && (isNumber m && isMode mode)) (record { n = value n; m = value m; mode = modeIn mode }) (λ t.
-      let first = and-split (isNumber n) (isNumber m && isMode mode) t in
-      let others = and-split (isNumber m) (isMode mode) (first .1) in
-      let letter = mode-read mode (others .1) in
-      record {
-        in-range = record { desks = omega (arith, number-most n (first .0)); cells = omega (arith, number-most m (others .0)); mode = omega (arith, letter .most) };
-        words-are = cc (number-word n (first .0), number-word m (others .0), letter .written);
-      }) e
+  tells (n ∷ m ∷ mode ∷ []) e = by-mode (modeIn mode) refl e
+    where
+      never : (t : Bool) → cond t none none ≡ some x → Tells (n ∷ m ∷ mode ∷ []) x
+      never true e = apart (cc)
+      never false e = apart (cc)
+
+      by-mode : (o : Option ℕ) → modeIn mode ≡ o → cond (isNumber n && isNumber m) (startWith (value n) (value m) o) none ≡ some x → Tells (n ∷ m ∷ mode ∷ []) x
+      by-mode none reads e = never (isNumber n && isNumber m) e
+      by-mode (some k) reads e =
+          if-so _ (isNumber n && isNumber m) (record { n = value n; m = value m; mode = k }) (λ t.
+          let both = and-split (isNumber n) (isNumber m) t in
+          let letter = mode-read mode k reads in
+          record {
+            in-range = record { desks = omega (arith, number-most n (both .0)); cells = omega (arith, number-most m (both .1)); mode = omega (arith, letter .most) };
+            words-are = cc (number-word n (both .0), number-word m (both .1), letter .written);
+          }) e
   tells (n ∷ m ∷ mode ∷ word ∷ ws) e = apart (cc)
 
   record TellsIn (l : Line) : Type 0 where
@@ -110,7 +125,7 @@ every-start-has-a-line x range =
     let m-small : x .m ≤ 4294967295 = omega (arith, range .cells) in
     let said = mode-said (x .mode) (omega (arith, range .mode)) in
     ap startOf (words-spaced (decimal (x .n)) (decimal (x .m) ∷ modeWord (x .mode) ∷ []) (rw (number-free (x .n) n-small, number-free (x .m) m-small, said .without-spaces)))
-    ∙ rw (number-said (x .n) n-small, number-said (x .m) m-small, said .is-mode, number-back (x .n) n-small .same-number, number-back (x .m) m-small .same-number, said .same-mode)
+    ∙ rw (number-said (x .n) n-small, number-said (x .m) m-small, number-back (x .n) n-small .same-number, number-back (x .m) m-small .same-number, said .says-it)
 
 -- ---- the code's enum
 

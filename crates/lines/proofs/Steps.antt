@@ -11,13 +11,12 @@ use mathlib.Core.Option.{Option, none, some}
 use Prim.Native.Nat.{ℕ, _<_, _≤_}
 use Prim.Native.String.{String}
 use native.Mathlib.Omega.{arith}
-use Rattle.acting.specs.Step.{Act, writes, reads, sends, delivers, takes, Step}
 use Rattle.text.specs.Text.{text}
 use Rattle.text.specs.Decimal.{value, decimal}
 use Rattle.text.proofs.Laws.Decimal.{and-split}
 use Rattle.schedule.specs.Lines.{Line, ended, cut}
 use Rattle.schedule.specs.Words.{words, is, isNumber, isDesk, isContent, contentIn}
-use Rattle.schedule.specs.Step.{writeIn, readIn, deliverIn, actIn, stepOf, stepIn}
+use Rattle.schedule.specs.Step.{Act, writes, reads, sends, delivers, takes, Step, writeIn, readIn, deliverIn, deskIn, stepOf, stepIn}
 use Rattle.lines.specs.Line.{spaced, contentWord, wordsBy, stepLine}
 use Rattle.lines.specs.Promises.{StepInRange, StepsAreInRange, OneLinePerStep, EveryStepHasALine}
 use Rattle.lines.proofs.Words.{apart, all-free, words-spaced, spaced-words, word-is, number-most, number-word, desk-below, desk-word, number-back, number-free, number-said, desk-said, content-read, content-said}
@@ -102,7 +101,7 @@ module _ (n : ℕ) (step : Step) (l : List ℕ) where
 
   -- "`s` desk", "`t` desk"
   act-tells : (letter : String) (a : Act) → is letter l ≡ true → ((p : ℕ) → p < n → StepInRange n (record { desk = p; act = a }))
-      → ((p : ℕ) → wordsBy p a ≡ text letter ∷ decimal p ∷ []) → (ws : List (List ℕ)) → actIn n a ws ≡ some step → Tells n (l ∷ ws) step
+      → ((p : ℕ) → wordsBy p a ≡ text letter ∷ decimal p ∷ []) → (ws : List (List ℕ)) → deskIn n a ws ≡ some step → Tells n (l ∷ ws) step
   act-tells letter a t range words [] e = nothing _ e
   act-tells letter a t range words (p ∷ []) e =
       if-so _ (isDesk n p) (record { desk = value p; act = a }) (λ there.

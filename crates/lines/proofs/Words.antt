@@ -25,12 +25,12 @@ use Rattle.content.specs.declared.Content.the-variants.{Blank, Open, Day}
 use Rattle.content.specs.Content.{dayOf}
 use Rattle.numbers.specs.Limits.{within}
 use Rattle.text.specs.Text.{text}
-use Rattle.text.specs.Parts.{parts, ontoFirst, space}
-use Rattle.text.specs.Decimal.{isDigit, digits, isDecimal, value, decimal, leading, signedDecimal}
+use Rattle.text.specs.Separated.{parts, ontoFirst, space, minus}
+use Rattle.text.specs.Decimal.{isDigit, digits, isDecimal, value, decimal, noLeadingZero, signedDecimal}
 use Rattle.text.specs.Promises.{ReadsBack}
 use Rattle.text.proofs.Laws.Decimal.{and-split, decimal-is}
 use Rattle.text.proofs.Laws.ReadBack.{printed-reads-back, read-prints-back}
-use Rattle.schedule.specs.Words.{same, is, isNumber, isDesk, minus, isDay, dayIn, isContent, contentIn}
+use Rattle.schedule.specs.Words.{same, is, isNumber, isDesk, isDay, dayIn, isContent, contentIn}
 use Rattle.lines.specs.Line.{spaced, contentWord}
 
 pub apart : {A : Type 0} → _≡_ {A = ℕ} 0 1 → A
@@ -156,7 +156,7 @@ module _ (k : ℕ) (small : k ≤ 4294967295) where
   number-back = printed-reads-back k (omega arith)
 
   pub number-free : free (decimal k) ≡ true
-  number-free = digits-free (decimal k) (and-split (leading (decimal k)) (digits (decimal k)) (sym (decimal-is (decimal k)) ∙ number-back .is-decimal) .1)
+  number-free = digits-free (decimal k) (and-split (noLeadingZero (decimal k)) (digits (decimal k)) (sym (decimal-is (decimal k)) ∙ number-back .is-decimal) .1)
 
   pub number-said : isNumber (decimal k) ≡ true
   unfolding isNumber
@@ -233,7 +233,7 @@ pub record ContentSaid (word : List ℕ) (c : Content) : Type 0 where
 
 module _ (word : List ℕ) (t : isDecimal word ≡ true) where
   decimal-free : free word ≡ true
-  decimal-free = digits-free word (and-split (leading word) (digits word) (sym (decimal-is word) ∙ t) .1)
+  decimal-free = digits-free word (and-split (noLeadingZero word) (digits word) (sym (decimal-is word) ∙ t) .1)
 
 plain-said : (word : List ℕ) → isDecimal word ≡ true → value word ≤ 2147483647 → ContentSaid word (Day (pos (value word)))
 unfolding isContent contentIn isDay dayIn is

@@ -5,12 +5,12 @@ use Prim.Native.Nat.{ℕ}
 use mathlib.Core.Bool.{cond}
 use mathlib.Core.List.{List, [], _∷_, _++_}
 use lib.Dec.{eqb}
-use Rattle.acting.specs.Step.{Act, writes, reads, sends, delivers, takes, Step}
+use Rattle.schedule.specs.Step.{Act, writes, reads, sends, delivers, takes, Step}
 use Rattle.content.specs.declared.Content.{Content}
 use Rattle.content.specs.declared.Content.the-variants.{Blank, Open, Day}
 use Rattle.schedule.specs.Start.{Start}
 use Rattle.text.specs.Text.{text}
-use Rattle.text.specs.Parts.{space}
+use Rattle.text.specs.Separated.{space}
 use Rattle.text.specs.Decimal.{decimal, signedDecimal}
 
 -- "Single spaces"

@@ -6,14 +6,13 @@ use mathlib.Core.Option.{some}
 use Prim.Native.Nat.{ℕ, _<_, _≤_}
 use mir.Syntax.{w32}
 use mir.Val.{SFits}
-use Rattle.acting.specs.Step.{writes, reads, delivers, Step}
 use Rattle.content.specs.declared.Content.{Content}
 use Rattle.content.specs.declared.Content.the-variants.{Blank}
 use Rattle.content.specs.Content.{dayOf}
 use Rattle.schedule.specs.declared.Start as declared
 use Rattle.schedule.specs.Lines.{Line, ended}
 use Rattle.schedule.specs.Start.{Start, startIn, saidStart}
-use Rattle.schedule.specs.Step.{stepIn}
+use Rattle.schedule.specs.Step.{writes, reads, delivers, Step, stepIn}
 use Rattle.lines.specs.Line.{stepLine, startLine}
 
 -- ---- steps

@@ -5,11 +5,10 @@ use mathlib.Core.Path.{_≡_}
 use mathlib.Core.Option.{none, some}
 use Prim.Native.String.{String}
 use lib.IntN.{pos, negsuc}
-use Rattle.acting.specs.Step.{writes, reads, sends, delivers, takes, Step}
 use Rattle.content.specs.declared.Content.the-variants.{Open, Day}
 use Rattle.schedule.specs.Lines.{ended, cut}
 use Rattle.schedule.specs.Start.{Start, startIn}
-use Rattle.schedule.specs.Step.{stepIn}
+use Rattle.schedule.specs.Step.{writes, reads, sends, delivers, takes, Step, stepIn}
 use Rattle.text.specs.Text.{text}
 
 abbrev pub Says : String → Step → Type 0

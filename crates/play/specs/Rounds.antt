@@ -13,13 +13,12 @@ use Rattle.desk.specs.Answers.{Value}
 use Rattle.desk.specs.Calls.{modeFor, openOf}
 use Rattle.runs.specs.Run.{Shelf, State, start}
 use Rattle.text.specs.Text.{text}
-use Rattle.acting.specs.Step.{Step}
-use Rattle.acting.specs.Said.{badLine}
 use Rattle.schedule.specs.Lines.{Line, linesOf}
 use Rattle.schedule.specs.Start.{Start, startIn}
-use Rattle.schedule.specs.Step.{stepIn}
+use Rattle.schedule.specs.Step.{Step, stepIn}
+use Rattle.printing.specs.StepAnswer.{StepAnswer, badLine}
 use Rattle.printing.specs.Printing.{lineText, headerText}
-use Rattle.play.specs.Steps.{saidOf, afterStep}
+use Rattle.play.specs.Steps.{stepAnswer, afterStep}
 
 -- "16,384 bytes and 1,000 steps (lines after the first) at most": 1,001 lines
 unfoldable pub tooLong : List ℕ → Bool
@@ -27,15 +26,21 @@ tooLong input = ltb 16384 (length input) || ltb 1001 (length (linesOf input))
 
 -- ---- the steps
 
--- a step's line, and what the rest prints; "A line of another form, .. prints its step number and `bad line` and ends the run"
-abbrev pub stepText : ℕ → State → Option Step → (State → List ℕ) → List ℕ
-stepText number s none rest = lineText number badLine
-stepText number s (some step) rest = lineText number (saidOf s step) ++ rest (afterStep s step)
+-- what a line's step comes to, and what those of the rest do. A bad line is one that says no step: "A line of another form, a number beyond 32 bits ..,
+-- or a desk that isn't there, prints its step number and `bad line` and ends the run"
+abbrev pub answersThen : State → Option Step → (State → List StepAnswer) → List StepAnswer
+answersThen s none rest = badLine ∷ []
+answersThen s (some step) rest = stepAnswer s step ∷ rest (afterStep s step)
 
--- the steps from this number on, of n desks that have come to this state
-unfoldable pub stepsText : (n number : ℕ) → State → List Line → List ℕ
-stepsText n number s [] = []
-stepsText n number s (line ∷ lines) = stepText number s (stepIn n line) (λ t. stepsText n (number + 1) t lines)
+-- what the steps of lines come to, of n desks that have come to this state
+unfoldable pub stepAnswers : ℕ → State → List Line → List StepAnswer
+stepAnswers n s [] = []
+stepAnswers n s (line ∷ lines) = answersThen s (stepIn n line) (λ t. stepAnswers n t lines)
+
+-- "Then step number and answer": a line each, numbered from k on
+unfoldable pub numbered : ℕ → List StepAnswer → List ℕ
+numbered k [] = []
+numbered k (a ∷ rest) = lineText k a ++ numbered (k + 1) rest
 
 -- ---- the start
 
@@ -57,7 +62,7 @@ badStart = text "bad start\n"
 -- the header, and the steps; "if it has another form or a desk can't be opened, `bad start` alone"
 abbrev pub runText : Option Start → List Line → List ℕ
 runText none lines = badStart
-runText (some x) lines = cond (opens x) (headerText (x .n) (x .m) (modeFor (x .mode)) ++ stepsText (x .n) 1 (start (shelfOf x)) lines) badStart
+runText (some x) lines = cond (opens x) (headerText (x .n) (x .m) (modeFor (x .mode)) ++ numbered 1 (stepAnswers (x .n) (start (shelfOf x)) lines)) badStart
 
 -- an input without a line has no line 1 of that form
 abbrev pub linesText : List Line → List ℕ

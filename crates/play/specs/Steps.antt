@@ -10,8 +10,8 @@ use Rattle.runs.specs.Calls.{Call, document01}
 use Rattle.runs.specs.Calls as calls
 unfoldable pub use Rattle.runs.specs.Calls.{sheetRoom}
 use Rattle.runs.specs.Run.{Sheet, State, made, after}
-use Rattle.acting.specs.Step.{Step, Act, writes, reads, sends, delivers, takes}
-use Rattle.acting.specs.Said.{Said, answers, nothingSent}
+use Rattle.schedule.specs.Step.{Step, Act, writes, reads, sends, delivers, takes}
+use Rattle.printing.specs.StepAnswer.{StepAnswer, ofCall, nothingSent}
 
 -- which sheet of the line is this sender's latest: of those from k on, and if there is none, the one found so far
 unfoldable pub latestFrom : ℕ → ℕ → Option ℕ → List Sheet → Option ℕ
@@ -38,16 +38,16 @@ abbrev pub callOf : State → Step → Option Call
 callOf s step = callBy s (step .desk) (step .act)
 
 -- what comes of it, and what there is then
-abbrev pub saidBy : State → Option Call → Said
-saidBy s none = nothingSent
-saidBy s (some c) = answers (made document01 s c .answer)
+abbrev pub callAnswer : State → Option Call → StepAnswer
+callAnswer s none = nothingSent
+callAnswer s (some c) = ofCall (made document01 s c .answer)
 
-abbrev pub afterBy : State → Option Call → State
-afterBy s none = s
-afterBy s (some c) = after document01 s c
+abbrev pub afterCall : State → Option Call → State
+afterCall s none = s
+afterCall s (some c) = after document01 s c
 
-unfoldable pub saidOf : State → Step → Said
-saidOf s step = saidBy s (callOf s step)
+unfoldable pub stepAnswer : State → Step → StepAnswer
+stepAnswer s step = callAnswer s (callOf s step)
 
 unfoldable pub afterStep : State → Step → State
-afterStep s step = afterBy s (callOf s step)
+afterStep s step = afterCall s (callOf s step)

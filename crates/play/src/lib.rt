@@ -3,14 +3,11 @@
 // `play` is all there is between standard input and standard output. Its promise is one record,
 // `Prints`, of the definition `printed` (specs/Rounds.antt), which reads like 01's section, for every
 // input.
-ghost use mathlib.Core.Bool.{true};
 ghost use mathlib.Core.Path.{_≡_};
-ghost use Prim.Native.Nat.{_≤_};
 ghost use lib.ListN.{length};
-ghost use Rattle.desk.specs.Calls.{modeFor};
 ghost use Rattle.laying.specs.Laying.{laidOver};
-ghost use Rattle.play.specs.Rounds.{tooLong, opens, printed, Prints};
-ghost use Rattle.play.specs.Parts.Running.{Plays, shelfText};
+ghost use Rattle.play.specs.Rounds.{tooLong, printed, Prints};
+ghost use Rattle.play.specs.Parts.Running.{modeInForce, ShelfPlays, shelfText};
 use desk::Desk;
 use schedule::Start;
 
@@ -34,20 +31,10 @@ fn put_alone(out: &mut [u8], line: &[u8]) -> usize
     line.len()
 }
 
-// Whether desks can be opened so: "A refused open gives a record of zeros."
-fn opens_so(n: u32, m: u32, mode: u32) -> bool
-    ensures { λ r. ⌜ r ≡ opens (record { n = n; m = m; mode = mode }) ⌝ }
-{
-    let o = Desk::open(n, m, 0, mode);
-    let d = o.desk;
-    let h = d.head;
-    h.n != 0
-}
-
-// The mode in force: that of a desk that was opened so.
+// The mode in force, that of a desk opened so; 0 where a desk can't be opened: "A refused open gives a
+// record of zeros."
 fn mode_in_force(n: u32, m: u32, mode: u32) -> u8
-    requires { ⌜ opens (record { n = n; m = m; mode = mode }) ≡ true ⌝ }
-    ensures { λ r. ⌜ r ≡ modeFor mode ⌝ }
+    ensures { λ r. ⌜ r ≡ modeInForce (record { n = n; m = m; mode = mode }) ⌝ }
 {
     let o = Desk::open(n, m, 0, mode);
     let d = o.desk;
@@ -56,11 +43,19 @@ fn mode_in_force(n: u32, m: u32, mode: u32) -> u8
 }
 
 // A shelf whose desks can be opened: the header, and the steps from `from` on.
-fn play_shelf(input: &[u8], from: usize, n: u32, m: u32, mode: u32, out: &mut [u8]) -> usize
-    requires { ⌜ Plays (now input) from (record { n = n; m = m; mode = mode }) (now out) ⌝ }
+fn play_shelf(
+    input: &[u8],
+    from: usize,
+    n: u32,
+    m: u32,
+    mode: u32,
+    force: u8,
+    out: &mut [u8],
+) -> usize
+    requires { ⌜ ShelfPlays (now input) from (record { n = n; m = m; mode = mode }) force (now out) ⌝ }
     ensures { λ r. ⌜ Prints (shelfText (now (input .entry)) from (record { n = n; m = m; mode = mode })) (now (out .entry)) (now (out .exit)) r ⌝ }
 {
-    let at = printing::put_header(out, 0, n, m, mode_in_force(n, m, mode));
+    let at = printing::put_header(out, 0, n, m, force);
     running::run(input, from, n, m, mode, out, at)
 }
 
@@ -72,17 +67,18 @@ pub fn play(input: &[u8], out: &mut [u8; 64064]) -> usize
     if too_long(input) {
         return put_alone(out, b"too long\n");
     }
-    let end = text::part_end(input, 0, 10);
+    let end = text::part_end(input, 0, b'\n');
     if input.len() <= end {
         return put_alone(out, b"bad start\n");
     }
     match schedule::start_in(&input[..end]) {
         Start::Bad => put_alone(out, b"bad start\n"),
         Start::Shelf { n, m, mode } => {
-            if opens_so(n, m, mode) {
-                return play_shelf(input, end + 1, n, m, mode, out);
+            let force = mode_in_force(n, m, mode);
+            if force == 0 {
+                return put_alone(out, b"bad start\n");
             }
-            put_alone(out, b"bad start\n")
+            play_shelf(input, end + 1, n, m, mode, force, out)
         }
     }
 }

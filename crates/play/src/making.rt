@@ -2,40 +2,30 @@
 ghost use mathlib.Core.List.{[]};
 ghost use mathlib.Core.Path.{_≡_};
 ghost use Prim.Native.Nat.{_<_};
-ghost use Rattle.desk.specs.Answers.{said};
 ghost use Rattle.desk.specs.Calls.{sendOf};
-ghost use Rattle.acting.specs.Said.{saying};
 ghost use Rattle.play.specs.Steps.{sheetRoom};
-ghost use Rattle.play.specs.Parts.Making.{making, lengthSent, bySend, delivered, makeOf, saidFor, LatestFit, LatestFits, SenderThere};
-use acting::Act;
-use acting::Said;
+ghost use Rattle.play.specs.Parts.Making.{stepOutcome, ofOutcome, bySend, delivered, makeOf, LatestFit, LatestFits, SenderThere};
 use desk::Answer;
 use desk::Desk;
 use desk::Outcome;
+use printing::StepAnswer;
+use schedule::Act;
 
-// How long the sheet is that was sent; 0 where none was.
-fn sheet_length(a: Answer) -> usize
-    ensures { λ r. ⌜ r ≡ lengthSent (said a) ⌝ }
+// What a step comes to, and the desk's next record.
+pub(crate) struct StepOutcome {
+    pub(crate) answer: StepAnswer,
+    pub(crate) desk: Desk,
+}
+
+// That of a call.
+fn of_call(o: Outcome) -> StepOutcome
+    ensures { λ r. ⌜ r ≡ ofOutcome o ⌝ }
 {
-    match a {
-        Answer::Sent { turn: _, entries } => 6 * (entries as usize) + 12,
-        Answer::Opened => 0,
-        Answer::Stored => 0,
-        Answer::Holds(_) => 0,
-        Answer::Waits => 0,
-        Answer::Held => 0,
-        Answer::Taken {
-            turn: _,
-            entries: _,
-            applied: _,
-        } => 0,
-        Answer::TakenAndRead {
-            turn: _,
-            entries: _,
-            applied: _,
-            content: _,
-        } => 0,
-        Answer::Refused(_) => 0,
+    let a = o.answer;
+    let d = o.desk;
+    StepOutcome {
+        answer: StepAnswer::OfCall(a),
+        desk: d,
     }
 }
 
@@ -46,77 +36,50 @@ fn sheet_room() -> [u8; 396]
     [0u8; 396]
 }
 
-// A send. The sheet, if one is sent, becomes the latest of desk p.
-fn send(d: Desk, p: u8, latest: &mut [u8]) -> Outcome
-    ensures { λ r. ⌜ making r [] (now (latest .exit)) ≡ bySend p (sendOf d sheetRoom) [] (now (latest .entry)) ⌝ }
+// A send. The sheet, if one is sent, becomes the latest of desk p: its entries have 6 bytes each, and
+// its trailer 12.
+fn send(d: Desk, p: u8, latest: &mut [u8]) -> StepOutcome
+    ensures { λ r. ⌜ stepOutcome r [] (now (latest .exit)) ≡ bySend p (sendOf d sheetRoom) [] (now (latest .entry)) ⌝ }
 {
     let mut sheet = sheet_room();
     let o = d.send(&mut sheet);
     let a = o.answer;
-    let len = sheet_length(a);
-    if len == 0 {
-        return o;
-    }
+    let Answer::Sent { turn: _, entries } = a else {
+        return of_call(o);
+    };
+    let len = 6 * (entries as usize) + 12;
     tray::hold(latest, p, &sheet[..len]);
-    o
+    of_call(o)
 }
 
 // "sender's latest sheet, again if wanted"; no call, if there is none.
-fn deliver(d: Desk, q: u8, tray: &mut [u8], latest: &[u8]) -> Outcome
+fn deliver(d: Desk, q: u8, tray: &mut [u8], latest: &[u8]) -> StepOutcome
     requires { ⌜ LatestFit (now latest) q ⌝ }
-    ensures { λ r. ⌜ making r (now (tray .exit)) [] ≡ delivered d q (now (tray .entry)) (now (latest .entry)) [] ⌝ }
+    ensures { λ r. ⌜ stepOutcome r (now (tray .exit)) [] ≡ delivered d q (now (tray .entry)) (now (latest .entry)) [] ⌝ }
 {
     let len = tray::length_at(latest, q) as usize;
     if len == 0 {
-        return Outcome {
-            answer: Answer::Held,
+        return StepOutcome {
+            answer: StepAnswer::NothingSent,
             desk: d,
         };
     }
     let from = 398 * (q as usize) + 2;
-    d.deliver(tray, &latest[from..from + len])
+    of_call(d.deliver(tray, &latest[from..from + len]))
 }
 
-// The call that desk p is to make. Where there is none to make, the record stays, and the answer says nothing.
-pub(crate) fn make(d: Desk, p: u32, act: Act, tray: &mut [u8], latest: &mut [u8]) -> Outcome
+// The step of desk p that this act is.
+pub(crate) fn make(d: Desk, p: u32, act: Act, tray: &mut [u8], latest: &mut [u8]) -> StepOutcome
     requires { ⌜ p < 16 ⌝ }
     requires { ⌜ SenderThere 16 act ⌝ }
     requires { ⌜ LatestFits (now latest) ⌝ }
-    ensures { λ r. ⌜ making r (now (tray .exit)) (now (latest .exit)) ≡ makeOf d p act (now (tray .entry)) (now (latest .entry)) ⌝ }
+    ensures { λ r. ⌜ stepOutcome r (now (tray .exit)) (now (latest .exit)) ≡ makeOf d p act (now (tray .entry)) (now (latest .entry)) ⌝ }
 {
     match act {
-        Act::Write { cell, content } => d.write(cell, content),
-        Act::Read { cell } => d.read(cell),
+        Act::Write { cell, content } => of_call(d.write(cell, content)),
+        Act::Read { cell } => of_call(d.read(cell)),
         Act::Send => send(d, p as u8, latest),
         Act::Deliver { sender } => deliver(d, sender as u8, tray, latest),
-        Act::Take => d.take(tray),
-        Act::Bad => Outcome {
-            answer: Answer::Held,
-            desk: d,
-        },
-    }
-}
-
-// What a step comes to, whose call was answered so.
-pub(crate) fn said_of(act: Act, latest: &[u8], a: Answer) -> Said
-    requires { ⌜ SenderThere 16 act ⌝ }
-    ensures { λ r. ⌜ saying r ≡ saidFor act (now (latest .entry)) (said a) ⌝ }
-{
-    match act {
-        Act::Write {
-            cell: _,
-            content: _,
-        } => Said::Answers(a),
-        Act::Read { cell: _ } => Said::Answers(a),
-        Act::Send => Said::Answers(a),
-        Act::Deliver { sender } => {
-            let none = tray::is_free(latest, sender as u8);
-            if none {
-                return Said::NothingSent;
-            }
-            Said::Answers(a)
-        }
-        Act::Take => Said::Answers(a),
-        Act::Bad => Said::BadLine,
+        Act::Take => of_call(d.take(tray)),
     }
 }

@@ -1,14 +1,12 @@
 // The steps of a run, line by line.
 ghost use mathlib.Core.Path.{_≡_};
-ghost use Prim.Native.Nat.{_+_, _<_, _≤_};
-ghost use lib.ListN.{length};
-ghost use Rattle.laying.specs.Laying.{laidOver};
-ghost use Rattle.acting.specs.Step.{saidStep, DeskIfBad};
-ghost use Rattle.play.specs.Parts.Running.{AllOpened, clearTrays, noSheets, stepAt, nextAt, Runs, runOf};
+ghost use Prim.Native.Nat.{_≤_};
+ghost use Rattle.schedule.specs.Step.{saidStep};
+ghost use Rattle.play.specs.Parts.Running.{AllOpened, clearTrays, noSheets, stepAt, Runs, runOf, Ran};
 use crate::making;
-use acting::Act;
-use acting::Step;
 use desk::Desk;
+use printing::StepAnswer;
+use schedule::Step;
 
 // "Open all desks of a shelf once"; what is behind the shelf's desks in the array is refused, and never used.
 fn opened(n: u32, m: u32, mode: u32) -> [Desk; 16]
@@ -41,37 +39,15 @@ fn no_sheets() -> [u8; 6368]
     [0u8; 6368]
 }
 
-// The step of the line from `from` to `end`; a line that no line feed ends is of another form.
+// The step of the line from `from` to `end`; a line that no line feed ends is bad.
 fn step_at(input: &[u8], from: usize, end: usize, n: u32) -> Step
     requires { ⌜ from ≤ end ⌝ }
     ensures { λ r. ⌜ saidStep r ≡ stepAt n (now (input .entry)) from end ⌝ }
-    ensures { λ r. ⌜ DeskIfBad r ⌝ }
 {
     if input.len() <= end {
-        return Step {
-            desk: 0,
-            act: Act::Bad,
-        };
+        return Step::Bad;
     }
     schedule::step_in(&input[from..end], n)
-}
-
-// Where the next line starts: nowhere, behind one of another form.
-fn next(act: Act, end: usize, size: usize) -> usize
-    requires { ⌜ end < 18446744073709551615 ⌝ }
-    ensures { λ r. ⌜ r ≡ nextAt act end size ⌝ }
-{
-    match act {
-        Act::Write {
-            cell: _,
-            content: _,
-        } => end + 1,
-        Act::Read { cell: _ } => end + 1,
-        Act::Send => end + 1,
-        Act::Deliver { sender: _ } => end + 1,
-        Act::Take => end + 1,
-        Act::Bad => size,
-    }
 }
 
 // Plays the lines from `from` on, and prints from `at` on; answers where the text ends.
@@ -85,9 +61,7 @@ pub(crate) fn run(
     at: usize,
 ) -> usize
     requires { ⌜ Runs (now input) from n (now out) at ⌝ }
-    ensures { λ _. ⌜ now (out .exit) ≡ laidOver (now (out .entry)) at (runOf (now (input .entry)) from n m mode) ⌝ }
-    ensures { λ r. ⌜ r ≡ at + length (runOf (now (input .entry)) from n m mode) ⌝ }
-    ensures { λ r. ⌜ r ≤ length (now (out .entry)) ⌝ }
+    ensures { λ r. ⌜ Ran (runOf (now (input .entry)) from n m mode) (now (out .entry)) at (now (out .exit)) r ⌝ }
 {
     let mut ds = opened(n, m, mode);
     let mut trays = clear_trays();
@@ -97,26 +71,21 @@ pub(crate) fn run(
     let mut w = at;
     let mut k = 1;
     while i < input.len() {
-        let end = text::part_end(input, i, 10);
+        let end = text::part_end(input, i, b'\n');
         let step = step_at(input, i, end, n);
-        let act = step.act;
-        let p = step.desk as usize;
+        let Step::Does { desk, act } = step else {
+            return printing::put_line(out, w, k, StepAnswer::BadLine);
+        };
+        let p = desk as usize;
         let d = ds[p];
-        let from = p * size;
-        let o = making::make(
-            d,
-            step.desk,
-            act,
-            &mut trays[from..from + size],
-            &mut latest,
-        );
+        let base = p * size;
+        let o = making::make(d, desk, act, &mut trays[base..base + size], &mut latest);
         let e = o.desk;
         ds[p] = e;
         let a = o.answer;
-        let said = making::said_of(act, &latest, a);
-        w = printing::put_line(out, w, k, said);
+        w = printing::put_line(out, w, k, a);
         k += 1;
-        i = next(act, end, input.len());
+        i = end + 1;
     }
     w
 }

@@ -1,2 +1,3 @@
+pub mod StepAnswer
 pub mod Printing
 pub mod Parts

@@ -15,7 +15,7 @@ use Rattle.laying.specs.Laying.{laidOver}
 use Rattle.text.specs.Text.{text}
 use Rattle.text.specs.Decimal.{decimal, signedDecimal}
 use Rattle.desk.specs.Answers.{Value, opened, stored, holds, waits, sent, held, taken}
-use Rattle.acting.specs.Said.{Said, answers, nothingSent, badLine}
+use Rattle.printing.specs.StepAnswer.{StepAnswer, ofCall, nothingSent, badLine}
 
 -- "`blank`, `open` or `day` and number"
 abbrev pub contentText : Content → List ℕ
@@ -44,14 +44,14 @@ abbrev pub answerText : Answer Value → List ℕ
 answerText (refused number) = text "refused " ++ decimal number
 answerText (answered v) = valueText v
 
-abbrev pub saidText : Said → List ℕ
-saidText (answers a) = answerText a
-saidText nothingSent = text "nothing sent"
-saidText badLine = text "bad line"
+abbrev pub stepAnswerText : StepAnswer → List ℕ
+stepAnswerText (ofCall a) = answerText a
+stepAnswerText nothingSent = text "nothing sent"
+stepAnswerText badLine = text "bad line"
 
 -- "step number and answer", "each line, read or printed, ended by one line feed"
-unfoldable pub lineText : ℕ → Said → List ℕ
-lineText number s = decimal number ++ text " " ++ saidText s ++ text "\n"
+unfoldable pub lineText : ℕ → StepAnswer → List ℕ
+lineText number a = decimal number ++ text " " ++ stepAnswerText a ++ text "\n"
 
 -- the letter of a mode that is in force: 1 sequential, 2 causal, 3 cache, and any other number, which is no mode in force, as cache
 abbrev pub letterText : ℕ → List ℕ

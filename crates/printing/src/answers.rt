@@ -4,13 +4,13 @@
 ghost use mathlib.Core.List.{_++_};
 ghost use Prim.Native.Nat.{_+_, _≤_};
 ghost use lib.ListN.{length};
-ghost use Rattle.acting.specs.Said.{saying};
-ghost use Rattle.desk.specs.Answers.{said as said·answer};
+ghost use Rattle.desk.specs.Answers.{said};
 ghost use Rattle.text.specs.Text.{text as text·bytes};
 ghost use Rattle.text.specs.Decimal.{decimal, signedDecimal};
-ghost use Rattle.printing.specs.Printing.{contentText, answerText, saidText};
+ghost use Rattle.printing.specs.StepAnswer.{saidStepAnswer};
+ghost use Rattle.printing.specs.Printing.{contentText, answerText, stepAnswerText};
 ghost use Rattle.printing.specs.Parts.{Puts, sentText, takenText, modeText};
-use acting::Said;
+use crate::StepAnswer;
 use content::Content;
 use desk::Answer;
 
@@ -102,7 +102,7 @@ fn put_taken(out: &mut [u8], at: usize, turn: u32, entries: u8, applied: u8) -> 
 
 fn put_answer(out: &mut [u8], at: usize, a: Answer) -> usize
     requires { ⌜ at + 40 ≤ length (now out) ⌝ }
-    ensures { λ r. ⌜ Puts 40 (now (out .entry)) at (answerText (said·answer a)) (now (out .exit)) r ⌝ }
+    ensures { λ r. ⌜ Puts 40 (now (out .entry)) at (answerText (said a)) (now (out .exit)) r ⌝ }
 {
     match a {
         Answer::Opened => put_text(out, at, b"opened"),
@@ -133,13 +133,13 @@ fn put_answer(out: &mut [u8], at: usize, a: Answer) -> usize
     }
 }
 
-pub(crate) fn put_said(out: &mut [u8], at: usize, said: Said) -> usize
+pub(crate) fn put_step_answer(out: &mut [u8], at: usize, answer: StepAnswer) -> usize
     requires { ⌜ at + 40 ≤ length (now out) ⌝ }
-    ensures { λ r. ⌜ Puts 40 (now (out .entry)) at (saidText (saying said)) (now (out .exit)) r ⌝ }
+    ensures { λ r. ⌜ Puts 40 (now (out .entry)) at (stepAnswerText (saidStepAnswer answer)) (now (out .exit)) r ⌝ }
 {
-    match said {
-        Said::Answers(a) => put_answer(out, at, a),
-        Said::NothingSent => put_text(out, at, b"nothing sent"),
-        Said::BadLine => put_text(out, at, b"bad line"),
+    match answer {
+        StepAnswer::OfCall(a) => put_answer(out, at, a),
+        StepAnswer::NothingSent => put_text(out, at, b"nothing sent"),
+        StepAnswer::BadLine => put_text(out, at, b"bad line"),
     }
 }

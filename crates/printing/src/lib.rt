@@ -4,11 +4,19 @@
 // the answer is where the text goes on; without that room nothing is laid, and the answer is `at`.
 ghost use mathlib.Core.Path.{_≡_};
 ghost use Prim.Native.Nat.{_+_, _-_, _≤_};
-ghost use Rattle.acting.specs.Said.{saying};
+ghost use Rattle.printing.specs.StepAnswer.{saidStepAnswer};
 ghost use Rattle.printing.specs.Printing.{wrote, lineText, headerText};
-use acting::Said;
+use desk::Answer;
 
 mod answers;
+
+// What a step comes to.
+pub enum StepAnswer {
+    OfCall(Answer),
+    // `d` before the sender has sent.
+    NothingSent,
+    BadLine,
+}
 
 // No line is longer.
 const LONGEST: usize = 64;
@@ -34,8 +42,8 @@ pub fn put_header(out: &mut [u8], at: usize, n: u32, m: u32, mode: u8) -> usize
 }
 
 // "Then step number and answer".
-pub fn put_line(out: &mut [u8], at: usize, number: u32, said: Said) -> usize
-    ensures { λ r. ⌜ record { bytes = now (out .exit); end = r } ≡ wrote (now (out .entry)) at (lineText number (saying said)) ⌝ }
+pub fn put_line(out: &mut [u8], at: usize, number: u32, answer: StepAnswer) -> usize
+    ensures { λ r. ⌜ record { bytes = now (out .exit); end = r } ≡ wrote (now (out .entry)) at (lineText number (saidStepAnswer answer)) ⌝ }
     ensures { λ r. ⌜ r ≤ at + 64 ⌝ }
 {
     if room(out.len(), at) < LONGEST {
@@ -43,6 +51,6 @@ pub fn put_line(out: &mut [u8], at: usize, number: u32, said: Said) -> usize
     }
     let at = answers::put_number(out, at, b"", number);
     let at = answers::put_text(out, at, b" ");
-    let at = answers::put_said(out, at, said);
+    let at = answers::put_step_answer(out, at, answer);
     answers::put_text(out, at, b"\n")
 }

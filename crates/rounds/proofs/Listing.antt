@@ -1,19 +1,19 @@
 -- Document 01's listing, by computing: `listing : Listing` (specs/Listing.antt).
 -- Assumes nothing.
 use mathlib.Core.Path.{refl}
-use Rattle.text.specs.Parts.{parts}
+use Rattle.text.specs.Separated.{parts}
 use Rattle.text.specs.Decimal.{isDecimal, valueFrom, value, digitsOnto, decimal}
 use Rattle.schedule.specs.Lines.{linesOf}
 use Rattle.schedule.specs.Words.{is, isNumber, isDesk, isDay, dayIn, isContent, contentIn}
-use Rattle.schedule.specs.Start.{isMode, modeIn, startIn}
+use Rattle.schedule.specs.Start.{modeIn, startIn}
 use Rattle.schedule.specs.Step.{stepIn}
 use Rattle.printing.specs.Printing.{lineText, headerText}
-use Rattle.play.specs.Steps.{latestFrom, latestOf, sheetRoom, saidOf, afterStep}
-use Rattle.play.specs.Rounds.{tooLong, stepsText, printed}
+use Rattle.play.specs.Steps.{latestFrom, latestOf, sheetRoom, stepAnswer, afterStep}
+use Rattle.play.specs.Rounds.{tooLong, stepAnswers, numbered, printed}
 use Rattle.played.proofs.Laws.Tested.{computing}
 use Rattle.rounds.specs.Listing.{Listing}
 
 pub listing : Listing
-unfolding computing parts isDecimal valueFrom value digitsOnto decimal linesOf is isNumber isDesk isDay dayIn isContent contentIn isMode modeIn startIn stepIn
-    lineText headerText latestFrom latestOf sheetRoom saidOf afterStep tooLong stepsText printed
+unfolding computing parts isDecimal valueFrom value digitsOnto decimal linesOf is isNumber isDesk isDay dayIn isContent contentIn modeIn startIn stepIn
+    lineText headerText latestFrom latestOf sheetRoom stepAnswer afterStep tooLong stepAnswers numbered printed
 listing = refl

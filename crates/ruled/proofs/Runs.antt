@@ -22,17 +22,16 @@ use Rattle.runs.specs.Calls.{Call, document01}
 use Rattle.runs.specs.Run.{Within, Sheet, State, start, made, after, Possible, Run, answersOf}
 use Rattle.runs.proofs.TurnRules.{turn-rules}
 use Rattle.runs.proofs.Laws.Lists.{run-split}
-use Rattle.acting.specs.Step.{Act, Step}
-use Rattle.acting.specs.Step as spec
+use Rattle.schedule.specs.Step as spec
 use Rattle.schedule.specs.Lines.{Line, linesOf}
 use Rattle.schedule.specs.Start.{Start}
-use Rattle.schedule.specs.Step.{stepIn}
-use Rattle.printing.specs.Printing.{lineText, headerText}
+use Rattle.schedule.specs.Step.{Act, Step, stepIn}
+use Rattle.printing.specs.Printing.{headerText}
 use Rattle.lines.specs.Promises.{StepInRange}
 use Rattle.lines.proofs.Steps.{steps-are-in-range}
-use Rattle.play.specs.Steps.{latestFrom, latestOf, deliversLatest, callBy, callOf, saidBy, saidOf, afterBy, afterStep}
-use Rattle.play.specs.Rounds.{stepText, stepsText, shelfOf, opens, badStart, runText, linesText, printed}
-use Rattle.ruled.specs.Promises.{FirstAsAll, stepsThen, stepsIn, endsThen, endsBadly, callsThen, callsOf, saysOf, numbered, answersIn, SchedulesAreRuns}
+use Rattle.play.specs.Steps.{latestFrom, latestOf, deliversLatest, callBy, callOf, callAnswer, stepAnswer, afterCall, afterStep}
+use Rattle.play.specs.Rounds.{answersThen, stepAnswers, numbered, shelfOf, opens, badStart, runText, linesText, printed}
+use Rattle.ruled.specs.Promises.{FirstAsAll, callsThen, stepThen, callsIn, callAnswers, SchedulesAreRuns}
 use Rattle.play.proofs.Laws.Whole.{opens-says}
 use Rattle.text.specs.Text.{text}
 
@@ -42,27 +41,22 @@ pub first-as-all : FirstAsAll
 unfolding openOf
 first-as-all n m mode p l = rw (lt-leb n p l, lt-leb n 0 (omega arith))
 
--- ---- what is printed
+-- ---- the answers
 
-text-is : (n k : ℕ) (s : State) (lines : List Line) → stepsText n k s lines ≡ numbered k (saysOf s (stepsIn n lines)) (endsBadly n lines)
-unfolding stepsText numbered saysOf stepsIn endsBadly
-text-is n k s [] = refl
-text-is n k s (line ∷ lines) = by-step (stepIn n line) (λ t. text-is n (k + 1) t lines)
+answers-of : (n : ℕ) (s : State) (lines : List Line) → callAnswers (stepAnswers n s lines) ≡ answersOf document01 s (callsIn n s lines)
+unfolding stepAnswers callsIn answersOf stepAnswer afterStep
+answers-of n s [] = refl
+answers-of n s (line ∷ lines) = by-step (stepIn n line) (λ t. answers-of n t lines)
   where
-    by-step : (o : Option Step) → ((t : State) → stepsText n (k + 1) t lines ≡ numbered (k + 1) (saysOf t (stepsIn n lines)) (endsBadly n lines))
-        → stepText k s o (λ t. stepsText n (k + 1) t lines) ≡ numbered k (saysOf s (stepsThen o (stepsIn n lines))) (endsThen o (endsBadly n lines))
-    by-step none more = refl
-    by-step (some step) more = ap (λ (l : List ℕ). lineText k (saidOf s step) ++ l) (more (afterStep s step))
-
-answers-of : (s : State) (steps : List Step) → answersIn (saysOf s steps) ≡ answersOf document01 s (callsOf s steps)
-unfolding saysOf callsOf answersOf saidOf afterStep
-answers-of s [] = refl
-answers-of s (step ∷ steps) = by-call (callOf s step) (λ t. answers-of t steps)
-  where
-    by-call : (o : Option Call) → ((t : State) → answersIn (saysOf t steps) ≡ answersOf document01 t (callsOf t steps))
-        → answersIn (saidBy s o ∷ saysOf (afterBy s o) steps) ≡ answersOf document01 s (callsThen s o (λ t. callsOf t steps))
+    by-call : (o : Option Call) → ((t : State) → callAnswers (stepAnswers n t lines) ≡ answersOf document01 t (callsIn n t lines))
+        → callAnswers (callAnswer s o ∷ stepAnswers n (afterCall s o) lines) ≡ answersOf document01 s (callsThen s o (λ t. callsIn n t lines))
     by-call none more = more s
     by-call (some c) more = ap (λ (l : List (Answer Value)). made document01 s c .answer ∷ l) (more (after document01 s c))
+
+    by-step : (o : Option Step) → ((t : State) → callAnswers (stepAnswers n t lines) ≡ answersOf document01 t (callsIn n t lines))
+        → callAnswers (answersThen s o (λ t. stepAnswers n t lines)) ≡ answersOf document01 s (stepThen s o (λ t. callsIn n t lines))
+    by-step none more = refl
+    by-step (some step) more = by-call (callOf s step) more
 
 -- ---- the calls
 
@@ -112,16 +106,16 @@ module _ (n : ℕ) (s : State) where
   next-is : (step : Step) → StepInRange n step → Next n s (callOf s step)
   next-is step range = by-act (step .desk) (step .act) (range .desk) (range .day)
 
-is-run : (n : ℕ) (s : State) (lines : List Line) → Run document01 n s (callsOf s (stepsIn n lines))
-unfolding Run callsOf stepsIn
+is-run : (n : ℕ) (s : State) (lines : List Line) → Run document01 n s (callsIn n s lines)
+unfolding Run callsIn
 is-run n s [] = tt
 is-run n s (line ∷ lines) = by-step (stepIn n line) refl (λ t. is-run n t lines)
   where
-    by-call : (o : Option Call) → Next n s o → ((t : State) → Run document01 n t (callsOf t (stepsIn n lines))) → Run document01 n s (callsThen s o (λ t. callsOf t (stepsIn n lines)))
+    by-call : (o : Option Call) → Next n s o → ((t : State) → Run document01 n t (callsIn n t lines)) → Run document01 n s (callsThen s o (λ t. callsIn n t lines))
     by-call none possible more = more s
     by-call (some c) possible more = (possible, more (after document01 s c))
 
-    by-step : (o : Option Step) → stepIn n line ≡ o → ((t : State) → Run document01 n t (callsOf t (stepsIn n lines))) → Run document01 n s (callsOf s (stepsThen o (stepsIn n lines)))
+    by-step : (o : Option Step) → stepIn n line ≡ o → ((t : State) → Run document01 n t (callsIn n t lines)) → Run document01 n s (stepThen s o (λ t. callsIn n t lines))
     by-step none e more = tt
     by-step (some step) e more = by-call (callOf s step) (next-is n s step (steps-are-in-range n line step e)) more
 
@@ -146,13 +140,12 @@ schedules-are-runs input x lines so =
     let run = is-run n (start (shelfOf x)) lines in
     record {
       is-run = record { within = limits; run = run };
-      same-answers = answers-of (start (shelfOf x)) (stepsIn n lines);
+      same-answers = answers-of n (start (shelfOf x)) lines;
       prints =
           ap (λ (b : Bool). cond b (text "too long\n") (linesText (linesOf input))) (so .fits)
           ∙ ap linesText (so .all-lines)
           ∙ ap (λ (o : Option Start). runText o lines) (so .says)
-          ∙ ap (λ (b : Bool). cond b (headerText n (x .m) (modeFor (x .mode)) ++ stepsText n 1 (start (shelfOf x)) lines) badStart) (so .can-open)
-          ∙ ap (λ (l : List ℕ). headerText n (x .m) (modeFor (x .mode)) ++ l) (text-is n 1 (start (shelfOf x)) lines);
+          ∙ ap (λ (b : Bool). cond b (headerText n (x .m) (modeFor (x .mode)) ++ numbered 1 (stepAnswers n (start (shelfOf x)) lines)) badStart) (so .can-open);
       turn-rules = λ cs ds e.
           turn-rules (shelfOf x) cs
           (record { within = limits; run = run-split document01 n (start (shelfOf x)) cs ds (subst (Run document01 n (start (shelfOf x))) e run) .0 });

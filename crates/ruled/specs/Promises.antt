@@ -1,8 +1,8 @@
 -- What is promised of a run of `rounds` beside its contract: that its steps are calls of the run of demand 3. proofs/Runs.antt proves it.
 -- Assumes nothing.
-use Prim.Native.Nat.{ℕ, _+_, _<_}
+use Prim.Native.Nat.{ℕ, _<_}
 use mathlib.Core.Path.{_≡_}
-use mathlib.Core.Bool.{Bool, true, false}
+use mathlib.Core.Bool.{true, false}
 use mathlib.Core.List.{List, [], _∷_, _++_}
 use mathlib.Core.Option.{Option, none, some}
 use Rattle.answer.specs.Answer.{Answer}
@@ -11,15 +11,13 @@ use Rattle.desk.specs.Calls.{modeFor, openOf}
 use Rattle.runs.specs.Calls.{Call, document01}
 use Rattle.runs.specs.Run.{State, start, after, answersOf, RunOn}
 use Rattle.runs.specs.TurnRules.{TurnRules}
-use Rattle.acting.specs.Step.{Step}
-use Rattle.acting.specs.Said.{Said, nothingSent, badLine}
-use Rattle.acting.specs.Said as said
 use Rattle.schedule.specs.Lines.{Line, linesOf}
 use Rattle.schedule.specs.Start.{Start, startIn}
-use Rattle.schedule.specs.Step.{stepIn}
-use Rattle.printing.specs.Printing.{lineText, headerText}
-use Rattle.play.specs.Steps.{callOf, saidOf, afterStep}
-use Rattle.play.specs.Rounds.{tooLong, shelfOf, opens, printed}
+use Rattle.schedule.specs.Step.{Step, stepIn}
+use Rattle.printing.specs.StepAnswer.{StepAnswer, ofCall, nothingSent, badLine}
+use Rattle.printing.specs.Printing.{headerText}
+use Rattle.play.specs.Steps.{callOf}
+use Rattle.play.specs.Rounds.{tooLong, stepAnswers, numbered, shelfOf, opens, printed}
 
 -- ---- the desks
 
@@ -29,52 +27,27 @@ FirstAsAll = (n m mode p : ℕ) → p < n → openOf n m p mode .answer ≡ open
 
 -- ---- the steps
 
--- the steps of lines, up to the first that is of another form
-abbrev pub stepsThen : Option Step → List Step → List Step
-stepsThen none steps = []
-stepsThen (some step) steps = step ∷ steps
-
-unfoldable pub stepsIn : ℕ → List Line → List Step
-stepsIn n [] = []
-stepsIn n (line ∷ lines) = stepsThen (stepIn n line) (stepsIn n lines)
-
--- a line of another form ends the run
-abbrev pub endsThen : Option Step → Bool → Bool
-endsThen none ends = true
-endsThen (some step) ends = ends
-
-unfoldable pub endsBadly : ℕ → List Line → Bool
-endsBadly n [] = false
-endsBadly n (line ∷ lines) = endsThen (stepIn n line) (endsBadly n lines)
-
--- the calls that steps are, from s on; `d` "before the sender has sent" is none
+-- the call that a step is, and those of the rest; `d` "before the sender has sent" is none
 abbrev pub callsThen : State → Option Call → (State → List Call) → List Call
 callsThen s none rest = rest s
 callsThen s (some c) rest = c ∷ rest (after document01 s c)
 
-unfoldable pub callsOf : State → List Step → List Call
-callsOf s [] = []
-callsOf s (step ∷ steps) = callsThen s (callOf s step) (λ t. callsOf t steps)
+-- a bad line ends the run
+abbrev pub stepThen : State → Option Step → (State → List Call) → List Call
+stepThen s none rest = []
+stepThen s (some step) rest = callsThen s (callOf s step) rest
 
--- what comes of each
-unfoldable pub saysOf : State → List Step → List Said
-saysOf s [] = []
-saysOf s (step ∷ steps) = saidOf s step ∷ saysOf (afterStep s step) steps
+-- the calls that the steps of lines are, from s on
+unfoldable pub callsIn : ℕ → State → List Line → List Call
+callsIn n s [] = []
+callsIn n s (line ∷ lines) = stepThen s (stepIn n line) (λ t. callsIn n t lines)
 
--- ---- what is printed of them
-
--- a line each, numbered from k on, and at the end, if a line of another form is there, `bad line`
-unfoldable pub numbered : ℕ → List Said → Bool → List ℕ
-numbered k [] true = lineText k badLine
-numbered k [] false = []
-numbered k (x ∷ xs) ends = lineText k x ++ numbered (k + 1) xs ends
-
--- the answers among them
-abbrev pub answersIn : List Said → List (Answer Value)
-answersIn [] = []
-answersIn (said.answers a ∷ xs) = a ∷ answersIn xs
-answersIn (nothingSent ∷ xs) = answersIn xs
-answersIn (badLine ∷ xs) = answersIn xs
+-- the answers of calls among what steps come to
+abbrev pub callAnswers : List StepAnswer → List (Answer Value)
+callAnswers [] = []
+callAnswers (ofCall a ∷ rest) = a ∷ callAnswers rest
+callAnswers (nothingSent ∷ rest) = callAnswers rest
+callAnswers (badLine ∷ rest) = callAnswers rest
 
 -- ---- a schedule is a run
 
@@ -89,11 +62,10 @@ pub record Starts (input : List ℕ) (x : Start) (lines : List Line) : Type 0 wh
 -- its steps are calls of a run of demand 3, from all desks opened once, with clear trays; what is printed are that run's answers, line by line; and
 -- the turn rules hold after each of its calls
 pub record IsARun (input : List ℕ) (x : Start) (lines : List Line) : Type 0 where
-  pub is-run : RunOn document01 (shelfOf x) (callsOf (start (shelfOf x)) (stepsIn (x .n) lines))
-  pub same-answers : answersIn (saysOf (start (shelfOf x)) (stepsIn (x .n) lines)) ≡ answersOf document01 (start (shelfOf x)) (callsOf (start (shelfOf x)) (stepsIn (x .n) lines))
-  pub prints : printed input
-      ≡ headerText (x .n) (x .m) (modeFor (x .mode)) ++ numbered 1 (saysOf (start (shelfOf x)) (stepsIn (x .n) lines)) (endsBadly (x .n) lines)
-  pub turn-rules : (cs ds : List Call) → callsOf (start (shelfOf x)) (stepsIn (x .n) lines) ≡ cs ++ ds → TurnRules document01 (shelfOf x) cs
+  pub is-run : RunOn document01 (shelfOf x) (callsIn (x .n) (start (shelfOf x)) lines)
+  pub same-answers : callAnswers (stepAnswers (x .n) (start (shelfOf x)) lines) ≡ answersOf document01 (start (shelfOf x)) (callsIn (x .n) (start (shelfOf x)) lines)
+  pub prints : printed input ≡ headerText (x .n) (x .m) (modeFor (x .mode)) ++ numbered 1 (stepAnswers (x .n) (start (shelfOf x)) lines)
+  pub turn-rules : (cs ds : List Call) → callsIn (x .n) (start (shelfOf x)) lines ≡ cs ++ ds → TurnRules document01 (shelfOf x) cs
 
 abbrev pub SchedulesAreRuns : Type 0
 SchedulesAreRuns = (input : List ℕ) (x : Start) (lines : List Line) → Starts input x lines → IsARun input x lines

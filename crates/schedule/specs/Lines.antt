@@ -2,7 +2,7 @@
 -- Assumes nothing.
 use Prim.Native.Nat.{ℕ}
 use mathlib.Core.List.{List, [], _∷_}
-use Rattle.text.specs.Parts.{parts, lineFeed}
+use Rattle.text.specs.Separated.{parts, lineFeed}
 
 pub data Line : Type 0 where
   ended : List ℕ → Line

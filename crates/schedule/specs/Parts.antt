@@ -4,18 +4,15 @@
 use Prim.Native.Nat.{ℕ, _+_, _-_}
 use mathlib.Core.Bool.{cond, _&&_}
 use mathlib.Core.List.{List, [], _∷_}
-use mathlib.Core.Option.{Option, none}
 use lib.Dec.{eqb, leb}
 use lib.IntN.{pos, negsuc}
 use lib.ListN.{length, drop}
-use Rattle.acting.specs.declared.Act.{Act}
-use Rattle.acting.specs.Step.{Step, saidAct, deskIfBad}
 use Rattle.content.specs.declared.Content.the-variants.{Blank, Open, Day}
 use Rattle.numbers.specs.Limits.{within}
 use Rattle.text.specs.declared.Decimal.{Decimal}
 use Rattle.text.specs.Decimal.{value}
-use Rattle.text.specs.Parts.{parts, firstPart, space}
-use Rattle.schedule.specs.Words.{is, isNumber, isDesk, isContent, contentIn}
+use Rattle.text.specs.Separated.{parts, firstPart, space}
+use Rattle.schedule.specs.Words.{is, isNumber, isContent, contentIn}
 use Rattle.schedule.specs.declared.words.Number.{Number}
 use Rattle.schedule.specs.declared.words.Letter.{Letter}
 use Rattle.schedule.specs.declared.words.Given.{Given}
@@ -65,13 +62,3 @@ unfoldable pub contentAt : List ℕ → ℕ → Given
 contentAt line from =
     let word = wordAt line from in
     record { ok = isContent word; content = cond (isContent word) (contentIn word) Blank; end = from + length word }
-
--- what a desk alone behind a letter says
-abbrev pub aloneIn : ℕ → Act → List (List ℕ) → Option Step
-aloneIn n a [] = none
-aloneIn n a (p ∷ []) = cond (isDesk n p) (saidAct (value p) a) none
-aloneIn n a (p ∷ word ∷ words) = none
-
--- an act that is not of another form: whatever desk a step with it names, `DeskIfBad` (crates/acting/specs/Step.antt) asks nothing of it
-abbrev pub NotBad : Act → Type 0
-NotBad a = (p : ℕ) → deskIfBad p a

@@ -1,7 +1,7 @@
 -- 01, "The program `rounds`": "Line 1: desks, cells, mode letter (`s`, `c`, `k` for cache, `-` for default)".
 -- Assumes nothing.
 use Prim.Native.Nat.{ℕ}
-use mathlib.Core.Bool.{Bool, cond, _&&_, _||_}
+use mathlib.Core.Bool.{cond, _&&_}
 use mathlib.Core.List.{List, [], _∷_}
 use mathlib.Core.Option.{Option, none, some}
 use Rattle.text.specs.Decimal.{value}
@@ -17,20 +17,18 @@ pub record Start : Type 0 where
   pub mode : ℕ
 
 -- 01, "A desk, call by call": "mode (1 sequential, 2 causal, 3 cache)", "Mode 0 means the default"
-unfoldable pub isMode : List ℕ → Bool
-isMode word = is "s" word || (is "c" word || (is "k" word || is "-" word))
+unfoldable pub modeIn : List ℕ → Option ℕ
+modeIn word = cond (is "s" word) (some 1) (cond (is "c" word) (some 2) (cond (is "k" word) (some 3) (cond (is "-" word) (some 0) none)))
 
-unfoldable pub modeIn : List ℕ → ℕ
-modeIn word = cond (is "s" word) 1 (cond (is "c" word) 2 (cond (is "k" word) 3 0))
+abbrev pub startWith : (n m : ℕ) → Option ℕ → Option Start
+startWith n m none = none
+startWith n m (some mode) = some (record { n = n; m = m; mode = mode })
 
 abbrev pub startOf : List (List ℕ) → Option Start
 startOf [] = none
 startOf (n ∷ []) = none
 startOf (n ∷ m ∷ []) = none
-startOf (n ∷ m ∷ mode ∷ []) =
-    cond (isNumber n && (isNumber m && isMode mode))
-    (some (record { n = value n; m = value m; mode = modeIn mode }))
-    none
+startOf (n ∷ m ∷ mode ∷ []) = cond (isNumber n && isNumber m) (startWith (value n) (value m) (modeIn mode)) none
 startOf (n ∷ m ∷ mode ∷ word ∷ words) = none
 
 -- what line 1 says, if it is of that form

@@ -10,7 +10,7 @@ use Rattle.content.specs.declared.Content.{Content}
 use Rattle.content.specs.declared.Content.the-variants.{Open, Day}
 use Rattle.numbers.specs.Limits.{within}
 use Rattle.text.specs.Text.{text}
-use Rattle.text.specs.Parts.{parts, space}
+use Rattle.text.specs.Separated.{parts, space, minus}
 use Rattle.text.specs.Decimal.{isDecimal, value}
 
 -- "Single spaces": between two words there is one
@@ -36,9 +36,6 @@ unfoldable pub isDesk : ℕ → List ℕ → Bool
 isDesk n word = isNumber word && ltb (value word) n
 
 -- "for a day signed": -2,147,483,648 to 2,147,483,647
-abbrev pub minus : ℕ
-minus = 45
-
 unfoldable pub isDay : List ℕ → Bool
 isDay [] = false
 isDay (b ∷ bs) =

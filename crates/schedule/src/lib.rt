@@ -1,16 +1,14 @@
 // What a schedule's lines say: how many there are, what the first says of the shelf, and what step a
 // line is. 01, "The program `rounds`".
 //
-// Every function takes every text. What a function here gives back is held to the words of the line
-// (specs/), each of which is read where it lies.
+// Every public function takes every text. The definitions speak of a line's words; the code reads each
+// word where it lies.
 ghost use mathlib.Core.Path.{_≡_};
 ghost use lib.ListN.{length};
-ghost use Rattle.acting.specs.Step.{saidStep, DeskIfBad};
 ghost use Rattle.schedule.specs.Lines.{ended, linesOf};
 ghost use Rattle.schedule.specs.Start.{startIn, saidStart};
-ghost use Rattle.schedule.specs.Step.{stepIn};
-use acting::Act;
-use acting::Step;
+ghost use Rattle.schedule.specs.Step.{stepIn, saidStep};
+use content::Content;
 
 mod steps;
 mod words;
@@ -18,7 +16,24 @@ mod words;
 // "Line 1: desks, cells, mode letter". The mode is open's: 0 for the default.
 pub enum Start {
     Shelf { n: u32, m: u32, mode: u32 },
-    // A line of another form.
+    // A line that says no shelf.
+    Bad,
+}
+
+// What a desk is to do.
+pub enum Act {
+    Write { cell: u32, content: Content },
+    Read { cell: u32 },
+    Send,
+    // It is given this sender's latest sheet.
+    Deliver { sender: u32 },
+    Take,
+}
+
+// What a line says as a step: which desk, and what it does.
+pub enum Step {
+    Does { desk: u32, act: Act },
+    // A bad line.
     Bad,
 }
 
@@ -31,8 +46,8 @@ pub fn lines_in(input: &[u8]) -> usize
     let mut i = 0;
     while i < input.len() {
         let b = input[i];
-        count += (b == 10) as usize;
-        cut = (b != 10) as usize;
+        count += (b == b'\n') as usize;
+        cut = (b != b'\n') as usize;
         i += 1;
     }
     count + cut
@@ -60,17 +75,16 @@ pub fn start_in(line: &[u8]) -> Start
 // What a line, without its line feed, says as a step, on a shelf of n desks.
 pub fn step_in(line: &[u8], n: u32) -> Step
     ensures { λ r. ⌜ saidStep r ≡ stepIn n (ended (now (line .entry))) ⌝ }
-    ensures { λ r. ⌜ DeskIfBad r ⌝ }
 {
     let first = words::letter_at(line, 0);
     let letter = first.byte;
     let from = first.end + 1;
     match letter {
-        119 => steps::write_in(line, from, n),
-        114 => steps::read_in(line, from, n),
-        115 => steps::act_in(line, from, n, Act::Send),
-        100 => steps::deliver_in(line, from, n),
-        116 => steps::act_in(line, from, n, Act::Take),
-        _ => steps::bad(),
+        b'w' => steps::write_in(line, from, n),
+        b'r' => steps::read_in(line, from, n),
+        b's' => steps::desk_in(line, from, n, Act::Send),
+        b'd' => steps::deliver_in(line, from, n),
+        b't' => steps::desk_in(line, from, n, Act::Take),
+        _ => Step::Bad,
     }
 }

@@ -1,31 +1,17 @@
 // The steps, each from the words behind its letter, which start at `from`.
 ghost use mathlib.Core.Path.{_≡_};
-ghost use mathlib.Core.Option.{none};
 ghost use Prim.Native.Nat.{_+_, _≤_};
 ghost use lib.ListN.{length};
-ghost use Rattle.acting.specs.Step.{saidStep, DeskIfBad};
-ghost use Rattle.schedule.specs.Step.{writeIn, readIn, deliverIn};
-ghost use Rattle.schedule.specs.Parts.{wordsAt, aloneIn, NotBad};
+ghost use Rattle.schedule.specs.Step.{writeIn, readIn, deliverIn, deskIn, saidAct, saidStep};
+ghost use Rattle.schedule.specs.Parts.{wordsAt};
+use crate::Act;
+use crate::Step;
 use crate::words;
-use acting::Act;
-use acting::Step;
-
-// A line of another form.
-pub(crate) fn bad() -> Step
-    ensures { λ r. ⌜ saidStep r ≡ none ⌝ }
-    ensures { λ r. ⌜ DeskIfBad r ⌝ }
-{
-    Step {
-        desk: 0,
-        act: Act::Bad,
-    }
-}
 
 // "`w` desk cell day-or-`open`"
 pub(crate) fn write_in(line: &[u8], from: usize, n: u32) -> Step
     requires { ⌜ from ≤ length (now line) + 1 ⌝ }
     ensures { λ r. ⌜ saidStep r ≡ writeIn n (wordsAt (now (line .entry)) from) ⌝ }
-    ensures { λ r. ⌜ DeskIfBad r ⌝ }
 {
     let p = words::number_at(line, from);
     let cell = words::number_at(line, p.end + 1);
@@ -33,7 +19,7 @@ pub(crate) fn write_in(line: &[u8], from: usize, n: u32) -> Step
     let content = c.content;
     let three = (p.end < line.len()) & (cell.end < line.len()) & (line.len() <= c.end);
     if three & (p.ok & (p.value < n) & (cell.ok & c.ok)) {
-        return Step {
+        return Step::Does {
             desk: p.value,
             act: Act::Write {
                 cell: cell.value,
@@ -41,57 +27,53 @@ pub(crate) fn write_in(line: &[u8], from: usize, n: u32) -> Step
             },
         };
     }
-    bad()
+    Step::Bad
 }
 
 // "`r` desk cell"
 pub(crate) fn read_in(line: &[u8], from: usize, n: u32) -> Step
     requires { ⌜ from ≤ length (now line) + 1 ⌝ }
     ensures { λ r. ⌜ saidStep r ≡ readIn n (wordsAt (now (line .entry)) from) ⌝ }
-    ensures { λ r. ⌜ DeskIfBad r ⌝ }
 {
     let p = words::number_at(line, from);
     let cell = words::number_at(line, p.end + 1);
     let two = (p.end < line.len()) & (line.len() <= cell.end);
     if two & (p.ok & (p.value < n) & cell.ok) {
-        return Step {
+        return Step::Does {
             desk: p.value,
             act: Act::Read { cell: cell.value },
         };
     }
-    bad()
+    Step::Bad
 }
 
 // "`d` sender receiver"
 pub(crate) fn deliver_in(line: &[u8], from: usize, n: u32) -> Step
     requires { ⌜ from ≤ length (now line) + 1 ⌝ }
     ensures { λ r. ⌜ saidStep r ≡ deliverIn n (wordsAt (now (line .entry)) from) ⌝ }
-    ensures { λ r. ⌜ DeskIfBad r ⌝ }
 {
     let q = words::number_at(line, from);
     let p = words::number_at(line, q.end + 1);
     let two = (q.end < line.len()) & (line.len() <= p.end);
     if two & (q.ok & (q.value < n) & (p.ok & (p.value < n))) {
-        return Step {
+        return Step::Does {
             desk: p.value,
             act: Act::Deliver { sender: q.value },
         };
     }
-    bad()
+    Step::Bad
 }
 
 // "`s` desk", "`t` desk"
-pub(crate) fn act_in(line: &[u8], from: usize, n: u32, act: Act) -> Step
-    requires { ⌜ NotBad act ⌝ }
-    ensures { λ r. ⌜ saidStep r ≡ aloneIn n act (wordsAt (now (line .entry)) from) ⌝ }
-    ensures { λ r. ⌜ DeskIfBad r ⌝ }
+pub(crate) fn desk_in(line: &[u8], from: usize, n: u32, act: Act) -> Step
+    ensures { λ r. ⌜ saidStep r ≡ deskIn n (saidAct act) (wordsAt (now (line .entry)) from) ⌝ }
 {
     let p = words::number_at(line, from);
     if (line.len() <= p.end) & (p.ok & (p.value < n)) {
-        return Step {
+        return Step::Does {
             desk: p.value,
             act: act,
         };
     }
-    bad()
+    Step::Bad
 }

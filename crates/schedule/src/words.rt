@@ -29,7 +29,7 @@ pub(crate) struct Given {
 pub(crate) fn number_at(line: &[u8], from: usize) -> Number
     ensures { λ r. ⌜ r ≡ numberAt (now (line .entry)) from ⌝ }
 {
-    let d = text::decimal_at(line, from, 32);
+    let d = text::decimal_at(line, from, b' ');
     if d.ok & (d.value <= 4294967295) {
         return Number {
             ok: true,
@@ -47,7 +47,7 @@ pub(crate) fn number_at(line: &[u8], from: usize) -> Number
 pub(crate) fn letter_at(line: &[u8], from: usize) -> Letter
     ensures { λ r. ⌜ r ≡ letterAt (now (line .entry)) from ⌝ }
 {
-    let end = text::part_end(line, from, 32);
+    let end = text::part_end(line, from, b' ');
     if end - from == 1 {
         return Letter {
             byte: line[from],
@@ -62,10 +62,10 @@ pub(crate) fn mode_of(letter: u8) -> u32
     ensures { λ r. ⌜ r ≡ modeOf letter ⌝ }
 {
     match letter {
-        115 => 1,
-        99 => 2,
-        107 => 3,
-        45 => 0,
+        b's' => 1,
+        b'c' => 2,
+        b'k' => 3,
+        b'-' => 0,
         _ => 4,
     }
 }
@@ -74,12 +74,12 @@ pub(crate) fn mode_of(letter: u8) -> u32
 fn open_at(line: &[u8], from: usize) -> Given
     ensures { λ r. ⌜ r ≡ openAt (now (line .entry)) from ⌝ }
 {
-    let end = text::part_end(line, from, 32);
+    let end = text::part_end(line, from, b' ');
     if end - from == 4 {
-        if (line[from] == 111)
-            & (line[from + 1] == 112)
-            & (line[from + 2] == 101)
-            & (line[from + 3] == 110)
+        if (line[from] == b'o')
+            & (line[from + 1] == b'p')
+            & (line[from + 2] == b'e')
+            & (line[from + 3] == b'n')
         {
             return Given {
                 ok: true,
@@ -148,8 +148,8 @@ pub(crate) fn content_at(line: &[u8], from: usize) -> Given
 {
     let first = byte_at(line, from);
     match first {
-        111 => open_at(line, from),
-        45 => below(text::decimal_at(line, from + 1, 32)),
-        _ => not_below(text::decimal_at(line, from, 32)),
+        b'o' => open_at(line, from),
+        b'-' => below(text::decimal_at(line, from + 1, b' ')),
+        _ => not_below(text::decimal_at(line, from, b' ')),
     }
 }

@@ -6,7 +6,7 @@ use mathlib.Core.List.{List, [], _∷_}
 use lib.Dec.{eqb, leb, ltb}
 use lib.IntN.{ℤ, pos, negsuc}
 use lib.ListN.{length, drop}
-use Rattle.text.specs.Parts.{firstPart}
+use Rattle.text.specs.Separated.{minus, firstPart}
 use Rattle.text.specs.declared.Decimal.{Decimal}
 
 -- ---- read
@@ -19,12 +19,12 @@ digits [] = true
 digits (b ∷ bs) = isDigit b && digits bs
 
 -- "without leading zeros": the word has bytes, and its first is a 0 only if it is the only one
-abbrev pub leading : List ℕ → Bool
-leading [] = false
-leading (b ∷ bs) = not (eqb b 48) || eqb (length bs) 0
+abbrev pub noLeadingZero : List ℕ → Bool
+noLeadingZero [] = false
+noLeadingZero (b ∷ bs) = not (eqb b 48) || eqb (length bs) 0
 
 unfoldable pub isDecimal : List ℕ → Bool
-isDecimal word = digits word && leading word
+isDecimal word = digits word && noLeadingZero word
 
 -- the number that digits make, behind those that make v
 unfoldable pub valueFrom : ℕ → List ℕ → ℕ
@@ -60,4 +60,4 @@ decimal k = digitsOnto 10 k []
 -- "a minus only before a day below 0"
 abbrev pub signedDecimal : ℤ → List ℕ
 signedDecimal (pos k) = decimal k
-signedDecimal (negsuc k) = 45 ∷ decimal (suc k)
+signedDecimal (negsuc k) = minus ∷ decimal (suc k)

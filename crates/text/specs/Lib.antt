@@ -1,4 +1,4 @@
 pub mod Text
-pub mod Parts
+pub mod Separated
 pub mod Decimal
 pub mod Promises

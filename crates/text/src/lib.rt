@@ -1,12 +1,13 @@
 // A text in bytes: where its parts end, and numbers in decimal, read and printed. 01, "The program
 // `rounds`": "Single spaces, decimal without leading zeros".
 //
-// Every function takes every text and every place in it, also one past the end, where there is nothing.
+// Every public function takes every text and every place in it, also one past the end, where there is
+// nothing.
 ghost use mathlib.Core.Path.{_≡_};
 ghost use Prim.Native.Nat.{_+_, _*_, _-_, _≤_, _<_, min};
 ghost use lib.ListN.{length, take, drop};
-ghost use Rattle.text.specs.Parts.{firstPart};
-ghost use Rattle.text.specs.Decimal.{leading, decimalAt};
+ghost use Rattle.text.specs.Separated.{firstPart};
+ghost use Rattle.text.specs.Decimal.{noLeadingZero, decimalAt};
 
 mod printed;
 
@@ -57,9 +58,9 @@ fn more(value: u64, d: u64) -> u64
 }
 
 // Whether a word has bytes, and its first is a 0 only if it is the only one.
-fn leads(s: &[u8], from: usize, end: usize) -> bool
+fn no_leading_zero(s: &[u8], from: usize, end: usize) -> bool
     requires { ⌜ end - from ≤ length (now s) - from ⌝ }
-    ensures { λ r. ⌜ r ≡ leading (take (end - from) (drop from (now (s .entry)))) ⌝ }
+    ensures { λ r. ⌜ r ≡ noLeadingZero (take (end - from) (drop from (now (s .entry)))) ⌝ }
 {
     if end <= from {
         return false;
@@ -72,7 +73,7 @@ pub fn decimal_at(s: &[u8], from: usize, sep: u8) -> Decimal
     ensures { λ r. ⌜ r ≡ decimalAt sep (now (s .entry)) from ⌝ }
 {
     let end = part_end(s, from, sep);
-    let mut ok = leads(s, from, end);
+    let mut ok = no_leading_zero(s, from, end);
     let mut value = 0;
     let mut i = from;
     while i < end {

@@ -1,6 +1,5 @@
--- One line of a schedule: what is known of the code's step, and what the line at a place prints.
---   Does, does, Idle, idle               what is known of the code's step, by what it says
---   line-here                            the line at a place: what it prints, and the rest
+-- The line of a schedule at a place.
+--   line-here                                 what its step comes to, and those of the rest
 --   Behind, behind, one-line, none-behind     how many lines are left behind it
 -- Assumes nothing.
 use Prim.Native.Nat.{ℕ, suc, _+_, _-_, _<_, _≤_}
@@ -14,54 +13,21 @@ use lib.ListN.{length, take, drop}
 use lib.Seq.{drop-length}
 use borrow.Author.Tests.{ltb-true, ltb-false}
 use Rattle.runs.specs.Run.{State}
-use Rattle.text.specs.Parts.{firstPart, lineFeed}
+use Rattle.text.specs.Separated.{firstPart, lineFeed}
 use Rattle.text.proofs.Laws.Parts.{part-within}
-use Rattle.acting.specs.declared.Act.{Act}
-use Rattle.acting.specs.declared.Act.the-variants as act
-use Rattle.acting.specs.Step.{Step, saidAct, deskIfBad}
-use Rattle.acting.specs.Step as spec
 use Rattle.schedule.specs.Lines.{Line, ended, cut, linesOf}
-use Rattle.schedule.specs.Step.{stepIn}
+use Rattle.schedule.specs.Step.{Step, stepIn}
 use Rattle.schedule.proofs.Laws.Lines.{no-lines, line-taken, line-ended, line-cut}
 use Rattle.lines.proofs.Steps.{no-step-of-cut}
-use Rattle.play.specs.Rounds.{stepText, stepsText}
-use Rattle.play.specs.Parts.Making.{SenderThere}
-use Rattle.play.specs.Parts.Running.{stepAt, nextAt}
-use Rattle.play.proofs.Laws.Standing.{some-is-not-none}
+use Rattle.play.specs.Rounds.{answersThen, stepAnswers}
+use Rattle.play.specs.Parts.Running.{stepAt}
 
--- ---- the code's step
-
--- it does what this step says
-pub record Does (p end size : ℕ) (a : Act) (step : Step) : Type 0 where
-  pub desk-is : p ≡ step .desk
-  pub next-is : nextAt a end size ≡ end + 1
-  pub sender : (n : ℕ) → ((q : ℕ) → step .act ≡ spec.delivers q → q < n) → SenderThere n a
-
--- it does nothing, and the run ends
-pub record Idle (p end size : ℕ) (a : Act) : Type 0 where
-  pub desk-is : deskIfBad p a → p ≡ 0
-  pub next-is : nextAt a end size ≡ size
-  pub sender : (n : ℕ) → SenderThere n a
-
-module _ (p end size : ℕ) where
-  -- by what it says
-  abbrev Tells : Act → Option Step → Type 0
-  Tells a none = Idle p end size a
-  Tells a (some step) = Does p end size a step
-
-  tells : (a : Act) → Tells a (saidAct p a)
-  tells (act.Write cell c) = record { desk-is = refl; next-is = refl; sender = λ n there. tt }
-  tells (act.Read cell) = record { desk-is = refl; next-is = refl; sender = λ n there. tt }
-  tells act.Send = record { desk-is = refl; next-is = refl; sender = λ n there. tt }
-  tells (act.Deliver q) = record { desk-is = refl; next-is = refl; sender = λ n there. there q refl }
-  tells act.Take = record { desk-is = refl; next-is = refl; sender = λ n there. tt }
-  tells act.Bad = record { desk-is = λ zero. zero; next-is = refl; sender = λ n. tt }
-
-  pub does : (a : Act) (step : Step) → saidAct p a ≡ some step → Does p end size a step
-  does a step e = subst (Tells a) e (tells a)
-
-  pub idle : (a : Act) → saidAct p a ≡ none → Idle p end size a
-  idle a e = subst (Tells a) e (tells a)
+some-is-not-none : {A : Type 0} {x : A} → _≡_ {A = Option A} (some x) none → ⊥
+some-is-not-none {A} e = subst is-some e tt
+  where
+    is-some : Option A → Type 0
+    is-some none = ⊥
+    is-some (some y) = Unit {0}
 
 -- ---- the line at a place
 
@@ -79,19 +45,18 @@ module _ (n : ℕ) (input : List ℕ) (i end : ℕ) (before : i < length input) 
   pub cut-here : length input ≤ end → linesOf (drop i input) ≡ cut (drop i input) ∷ []
   cut-here h = line-cut input i before (omega (arith, within))
 
-  pub line-here : (k : ℕ) (s : State)
-      → stepsText n k s (linesOf (drop i input)) ≡ stepText k s (stepAt n input i end) (λ t. stepsText n (k + 1) t (linesOf (drop (end + 1) input)))
-  unfolding stepsText
-  line-here k s = by-test (ltb end (length input)) refl
+  pub line-here : (s : State) → stepAnswers n s (linesOf (drop i input)) ≡ answersThen s (stepAt n input i end) (λ t. stepAnswers n t (linesOf (drop (end + 1) input)))
+  unfolding stepAnswers
+  line-here s = by-test (ltb end (length input)) refl
     where
       by-test : (b : Bool) → ltb end (length input) ≡ b
-          → stepsText n k s (linesOf (drop i input))
-          ≡ stepText k s (cond (ltb end (length input)) (stepIn n (ended (take (end - i) (drop i input)))) none) (λ t. stepsText n (k + 1) t (linesOf (drop (end + 1) input)))
-      by-test true e = rw e (ap (stepsText n k s) (ended-here (ltb-true end (length input) e)))
+          → stepAnswers n s (linesOf (drop i input))
+          ≡ answersThen s (cond (ltb end (length input)) (stepIn n (ended (take (end - i) (drop i input)))) none) (λ t. stepAnswers n t (linesOf (drop (end + 1) input)))
+      by-test true e = rw e (ap (stepAnswers n s) (ended-here (ltb-true end (length input) e)))
       by-test false e =
           rw e
-          (ap (stepsText n k s) (cut-here (ltb-false end (length input) e))
-          ∙ ap (λ (o : Option Step). stepText k s o (λ t. stepsText n (k + 1) t [])) (no-step-of-cut n (drop i input)))
+          (ap (stepAnswers n s) (cut-here (ltb-false end (length input) e))
+          ∙ ap (λ (o : Option Step). answersThen s o (λ t. stepAnswers n t [])) (no-step-of-cut n (drop i input)))
 
   -- a step's line is ended, and behind it there is one line less
   pub record Behind (step : Step) : Type 0 where

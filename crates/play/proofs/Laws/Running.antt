@@ -1,34 +1,29 @@
 -- What the functions of src/lib.rt and src/running.rt know at each return, but for `run` and `play`.
---   long-is, opens-by-head                the tests on the input's length, and on the desks
+--   long-is, mode-by-head                 the test on the input's length, and the mode of an opened desk
 --   OpenedSoFar, openings                 the loop that opens the desks, and its laws as a set for `search`
---   steps-at, nexts                       sets for `search`: `step_at` and `next`
+--   steps-at                              a set for `search`: `step_at`
 -- Assumes nothing.
 use Prim.Native.Nat.{ℕ, _+_, _-_, _<_, _≤_}
 use mathlib.Core.Path.{_≡_, refl, sym, ap, _∙_}
-use mathlib.Core.Bool.{Bool, cond, not, _||_}
+use mathlib.Core.Bool.{Bool, cond, _||_}
 use mathlib.Core.List.{List, []}
 use mathlib.Core.Option.{none}
 use native.Mathlib.Omega.{arith}
 use native.Mathlib.Decide.{ℕ-discrete}
-use lib.Dec.{eqb, ltb}
+use lib.Dec.{ltb}
 use lib.ListN.{length, getD, set, take, drop, replicate, length-set, length-replicate}
 use lib.Seq.{getD-set-same, getD-set-other}
-use borrow.Author.Tests.{le-ltb, lt-ltb, ne-eqb}
-use Rattle.content.specs.declared.Content.{Content}
+use borrow.Author.Tests.{le-ltb, lt-ltb}
 use Rattle.desk.specs.declared.Desk.{Desk}
 use Rattle.desk.specs.declared.Outcome.{Outcome}
 use Rattle.desk.specs.Answers.{opened, Done, outcome}
 use Rattle.desk.specs.Calls.{openRules, modeFor, blankDesk, freshHead, openOf}
-use Rattle.desk.proofs.Laws.Allowed.{open-allows}
 use Rattle.runs.proofs.Laws.Steps.{by-call}
-use Rattle.acting.specs.declared.Act.{Act}
-use Rattle.acting.specs.declared.Act.the-variants as act
-use Rattle.acting.specs.declared.Step as declared
-use Rattle.acting.specs.Step.{Step, saidStep}
+use Rattle.schedule.specs.declared.Step as declared
 use Rattle.schedule.specs.Lines.{ended, linesOf}
-use Rattle.schedule.specs.Step.{stepIn}
-use Rattle.play.specs.Rounds.{tooLong, isAnswered, opens}
-use Rattle.play.specs.Parts.Running.{noDesk, AllOpened, clearTrays, noSheets, stepAt, nextAt}
+use Rattle.schedule.specs.Step.{stepIn, saidStep}
+use Rattle.play.specs.Rounds.{tooLong, isAnswered}
+use Rattle.play.specs.Parts.Running.{noDesk, AllOpened, clearTrays, noSheets, stepAt, modeInForce}
 
 -- ---- the input's length
 
@@ -39,15 +34,15 @@ long-is input lines e = ap (λ (k : ℕ). ltb 16384 (length input) || ltb 1001 k
 -- ---- the desks
 
 -- "A refused open gives a record of zeros."
-pub opens-by-head : (n m mode : ℕ) (o : Outcome) → outcome o [] ≡ openOf n m 0 mode → not (eqb (o .desk .head .n) 0) ≡ opens (record { n = n; m = m; mode = mode })
+pub mode-by-head : (n m mode : ℕ) (o : Outcome) → outcome o [] ≡ openOf n m 0 mode → o .desk .head .mode ≡ modeInForce (record { n = n; m = m; mode = mode })
 unfolding openOf
-opens-by-head n m mode o is =
-    ap (λ (x : Done). not (eqb (x .desk .head .n) 0)) is
-    ∙ by-call (λ (x : Done). not (eqb (x .desk .head .n) 0) ≡ isAnswered (x .answer)) (openRules n m 0 mode) (blankDesk (freshHead 0 0 0 0)) [] opened
+mode-by-head n m mode o is =
+    ap (λ (x : Done). x .desk .head .mode) is
+    ∙ by-call (λ (x : Done). x .desk .head .mode ≡ cond (isAnswered (x .answer)) (modeFor mode) 0) (openRules n m 0 mode) (blankDesk (freshHead 0 0 0 0)) [] opened
     (blankDesk (freshHead n m 0 (modeFor mode)))
     []
     (λ k first. refl)
-    (λ silent. ap not (ne-eqb n 0 (λ z. absurd (omega (arith, open-allows n m 0 mode silent .desks-least)))))
+    (λ silent. refl)
 
 pub record OpenedSoFar (n m mode : ℕ) (ds : List Desk) (p : ℕ) : Type 0 where
   pub most : p ≤ 16
@@ -91,24 +86,6 @@ module _ (n : ℕ) (input : List ℕ) (from end : ℕ) where
   step-ended h s is = is ∙ sym (ap (λ (t : Bool). cond t (stepIn n (ended (take (end - from) (drop from input)))) none) (lt-ltb end (length input) h))
 
 pub ruleset steps-at = (step-cut, step-ended)
-
-module _ (a : Act) (end size : ℕ) where
-  pub next-write : (cell : ℕ) (c : Content) → a ≡ act.Write cell c → end + 1 ≡ nextAt a end size
-  next-write cell c e = ap (λ (x : Act). nextAt x end size) (sym e)
-
-  pub next-read : (cell : ℕ) → a ≡ act.Read cell → end + 1 ≡ nextAt a end size
-  next-read cell e = ap (λ (x : Act). nextAt x end size) (sym e)
-
-  pub next-send : a ≡ act.Send → end + 1 ≡ nextAt a end size
-  next-send e = ap (λ (x : Act). nextAt x end size) (sym e)
-
-  pub next-deliver : (q : ℕ) → a ≡ act.Deliver q → end + 1 ≡ nextAt a end size
-  next-deliver q e = ap (λ (x : Act). nextAt x end size) (sym e)
-
-  pub next-take : a ≡ act.Take → end + 1 ≡ nextAt a end size
-  next-take e = ap (λ (x : Act). nextAt x end size) (sym e)
-
-pub ruleset nexts = (next-write, next-read, next-send, next-deliver, next-take)
 
 -- ---- the bytes that a run is lent
 

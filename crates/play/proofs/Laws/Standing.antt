@@ -5,21 +5,19 @@
 -- Assumes nothing.
 use Prim.Native.Nat.{ℕ, zero, suc, _+_, _*_, _<_, _≤_}
 use mathlib.Core.Path.{_≡_, refl, sym, ap, _∙_, subst}
-use mathlib.Core.Bool.{Bool, cond}
 use mathlib.Core.List.{List, []}
-use mathlib.Core.Option.{Option, none, some}
+use mathlib.Core.Option.{Option}
 use native.Mathlib.Omega.{arith}
 use native.Mathlib.Decide.{ℕ-discrete}
 use lib.ListN.{length, getD, set, drop, replicate, length-set, length-drop, length-replicate}
 use lib.Seq.{length-take-le, getD-set-same, getD-set-other}
 use borrow.Author.Tests.{eq-eqb}
-use Rattle.answer.specs.Answer.{answered}
 use Rattle.numbers.specs.Numbers.{at1}
 use Rattle.laying.specs.Laying.{laidOver}
 use Rattle.tray.specs.Tray.{lengthAt}
 use Rattle.tray.proofs.Laws.Parts.{laid-long}
 use Rattle.desk.specs.declared.Desk.{Desk}
-use Rattle.desk.specs.Answers.{held, Done}
+use Rattle.desk.specs.Answers.{Done}
 use Rattle.desk.specs.Calls.{writeOf, readOf, sendOf, deliverOf, takeOf}
 use Rattle.keeping.proofs.Laws.Deliver.{deliver-long}
 use Rattle.keeping.proofs.Laws.Take.{take-long}
@@ -27,23 +25,14 @@ use Rattle.runs.specs.Calls.{document01}
 use Rattle.runs.specs.Calls as calls
 use Rattle.runs.specs.Run.{Shelf, Sheet, State, sheetNo, start, made, put, after}
 use Rattle.runs.proofs.Laws.Steps.{put-same, put-other, put-own}
-use Rattle.acting.specs.declared.Act.{Act}
-use Rattle.acting.specs.declared.Act.the-variants as act
-use Rattle.acting.specs.Step.{Step, saidAct}
-use Rattle.acting.specs.Step as spec
-use Rattle.acting.specs.Said.{answers, nothingSent, badLine}
-use Rattle.play.specs.Steps.{sheetRoom, latestFrom, latestOf, deliversLatest, saidBy, afterBy, saidOf, afterStep}
-use Rattle.play.specs.Parts.Making.{Making, byTray, noCall, makeOf, saidFor, SenderThere}
+use Rattle.schedule.specs.declared.Act.{Act}
+use Rattle.schedule.specs.declared.Act.the-variants as act
+use Rattle.schedule.specs.Step.{Step, saidAct}
+use Rattle.play.specs.Steps.{sheetRoom, latestFrom, latestOf, deliversLatest, callAnswer, afterCall, stepAnswer, afterStep}
+use Rattle.play.specs.Parts.Making.{StepDone, byTray, nothingDone, makeOf, SenderThere}
 use Rattle.play.specs.Parts.Running.{noDesk, AllOpened}
 use Rattle.play.proofs.Laws.Latest.{LatestIs, none-yet, sheet-there, Kept, kept-send}
 use Rattle.play.proofs.Laws.Trays.{trayIn, tray-room, tray-same, tray-other, tray-zeros}
-
-pub some-is-not-none : {A : Type 0} {x : A} → _≡_ {A = Option A} (some x) none → ⊥
-some-is-not-none {A} e = subst is-some e tt
-  where
-    is-some : Option A → Type 0
-    is-some none = ⊥
-    is-some (some y) = Unit {0}
 
 pub record Stands (n : ℕ) (s : State) (ds : List Desk) (trays latest : List ℕ) : Type 0 where
   pub desks-long : length ds ≡ 16
@@ -81,17 +70,11 @@ module _ {n : ℕ} (few : n ≤ 16) {s : State} {ds : List Desk} {trays latest :
       by-tray q m (yes e) = rw e (tray-same (398 * n) trays p t long room ∙ sym (put-same (s .tray) p t))
       by-tray q m (no e) = tray-other (398 * n) trays p t long q e ∙ so .tray-is q m ∙ sym (put-other (s .tray) p t q e)
 
-  -- what a step leaves stands for the state after it, and what it comes to is what it says
-  pub record Follows (a : Act) (step : Step) (r : Making) : Type 0 where
-    pub said-is : saidFor a (r .latest) (r .answer) ≡ saidOf s step
+  -- what a step leaves stands for the state after it, and what it comes to is what the step does
+  pub record Follows (step : Step) (r : StepDone) : Type 0 where
+    pub answer-is : r .answer ≡ stepAnswer s step
     pub as-long : length (r .tray) ≡ 398 * n
     pub stands : Stands n (afterStep s step) (set ds p (r .desk)) (laidOver trays (p * (398 * n)) (r .tray)) (r .latest)
-
-  -- a line of another form changes nothing
-  pub record Stays (a : Act) (r : Making) : Type 0 where
-    pub said-is : saidFor a (r .latest) (r .answer) ≡ badLine
-    pub as-long : length (r .tray) ≡ 398 * n
-    pub stands : Stands n s (set ds p (r .desk)) (laidOver trays (p * (398 * n)) (r .tray)) (r .latest)
 
   -- where a call leaves the tray alone
   abbrev withDesk : Desk → List Sheet → State
@@ -115,67 +98,55 @@ module _ {n : ℕ} (few : n ≤ 16) {s : State} {ds : List Desk} {trays latest :
 
   -- ---- act by act
 
-  -- what the code makes of an act
-  abbrev makes : Act → Making
+  -- what the code makes of an act, and what the act says
+  abbrev makes : Act → StepDone
   makes a = makeOf (s .desk p) p a (s .tray p) latest
 
-  deliver-here : (q : ℕ) (found : Option ℕ) → latestOf q (s .line) ≡ found → LatestIs latest q (s .line) found
-      → Follows (act.Deliver q) (record { desk = p; act = spec.delivers q }) (makes (act.Deliver q))
-  unfolding saidOf afterStep after
+  abbrev says : Act → Step
+  says a = record { desk = p; act = saidAct a }
+
+  deliver-here : (q : ℕ) (found : Option ℕ) → latestOf q (s .line) ≡ found → LatestIs latest q (s .line) found → Follows (says (act.Deliver q)) (makes (act.Deliver q))
+  unfolding stepAnswer afterStep after
   deliver-here q found e (none-yet f) =
-      let is : makes (act.Deliver q) ≡ noCall (s .desk p) (s .tray p) latest = rw f in
-      subst (Follows (act.Deliver q) (record { desk = p; act = spec.delivers q })) (sym is)
+      let is : makes (act.Deliver q) ≡ nothingDone (s .desk p) (s .tray p) latest = rw f in
+      subst (Follows (says (act.Deliver q))) (sym is)
       (record {
-        said-is = ap (λ (b : Bool). cond b nothingSent (answers (answered held))) f ∙ sym (ap (λ (o : Option ℕ). saidBy s (deliversLatest p o)) e);
+        answer-is = sym (ap (λ (o : Option ℕ). callAnswer s (deliversLatest p o)) e);
         as-long = tray-long;
-        stands = subst (λ (o : Option ℕ). Stands n (afterBy s (deliversLatest p o)) (set ds p (s .desk p)) (laidOver trays (p * (398 * n)) (s .tray p)) latest) (sym e) untouched;
+        stands = subst (λ (o : Option ℕ). Stands n (afterCall s (deliversLatest p o)) (set ds p (s .desk p)) (laidOver trays (p * (398 * n)) (s .tray p)) latest) (sym e) untouched;
       })
   deliver-here q found e (sheet-there k m f b) =
       let done : Done = made document01 s (calls.delivers p k) in
       let is : makes (act.Deliver q) ≡ byTray done latest = rw f (ap (λ (x : List ℕ). byTray (deliverOf (s .desk p) (s .tray p) x) latest) b) in
-      subst (Follows (act.Deliver q) (record { desk = p; act = spec.delivers q })) (sym is)
+      subst (Follows (says (act.Deliver q))) (sym is)
       (record {
-        said-is = ap (λ (t : Bool). cond t nothingSent (answers (done .answer))) f ∙ sym (ap (λ (o : Option ℕ). saidBy s (deliversLatest p o)) e);
+        answer-is = sym (ap (λ (o : Option ℕ). callAnswer s (deliversLatest p o)) e);
         as-long = deliver-long (s .desk p) (s .tray p) (sheetNo s k .bytes) ∙ tray-long;
         stands =
-            subst (λ (o : Option ℕ). Stands n (afterBy s (deliversLatest p o)) (set ds p (done .desk)) (laidOver trays (p * (398 * n)) (done .lent)) latest) (sym e)
+            subst (λ (o : Option ℕ). Stands n (afterCall s (deliversLatest p o)) (set ds p (done .desk)) (laidOver trays (p * (398 * n)) (done .lent)) latest) (sym e)
             (replaced (done .desk) (done .lent) (deliver-long (s .desk p) (s .tray p) (sheetNo s k .bytes) ∙ tray-long) (so .kept));
       })
 
-  -- what is to be shown of an act that says this
-  abbrev Shown : Act → Option Step → Type 0
-  Shown a none = Unit {0}
-  Shown a (some step) = Follows a step (makes a)
-
-  by-act : (a : Act) → SenderThere n a → Shown a (saidAct p a)
-  unfolding saidOf afterStep after
-  by-act (act.Write cell c) there = record { said-is = refl; as-long = tray-long; stands = left (writeOf (s .desk p) cell c .desk) (so .kept) }
-  by-act (act.Read cell) there = record { said-is = refl; as-long = tray-long; stands = left (readOf (s .desk p) cell .desk) (so .kept) }
-  by-act act.Send there = record { said-is = refl; as-long = tray-long; stands = left (sendOf (s .desk p) sheetRoom .desk) (kept-send n (s .line) latest (so .kept) few p l (s .desk p) sheetRoom) }
-  by-act (act.Deliver q) there = deliver-here q (latestOf q (s .line)) refl (so .kept .each q there)
+  by-act : (a : Act) → SenderThere n a → Follows (says a) (makes a)
+  unfolding stepAnswer afterStep after
+  by-act (act.Write cell c) there = record { answer-is = refl; as-long = tray-long; stands = left (writeOf (s .desk p) cell c .desk) (so .kept) }
+  by-act (act.Read cell) there = record { answer-is = refl; as-long = tray-long; stands = left (readOf (s .desk p) cell .desk) (so .kept) }
+  by-act act.Send there =
+      record { answer-is = refl; as-long = tray-long; stands = left (sendOf (s .desk p) sheetRoom .desk) (kept-send n (s .line) latest (so .kept) few p l (s .desk p) sheetRoom) }
+  by-act (act.Deliver q) there = deliver-here q (latestOf q (s .line)) refl (so .kept .each q (there q refl))
   by-act act.Take there =
-      record { said-is = refl; as-long = take-long (s .desk p) (s .tray p) ∙ tray-long; stands = replaced (takeOf (s .desk p) (s .tray p) .desk) (takeOf (s .desk p) (s .tray p) .lent) (take-long (s .desk p) (s .tray p) ∙ tray-long) (so .kept) }
-  by-act act.Bad there = tt
+      let done = takeOf (s .desk p) (s .tray p) in
+      let long = take-long (s .desk p) (s .tray p) ∙ tray-long in
+      record { answer-is = refl; as-long = long; stands = replaced (done .desk) (done .lent) long (so .kept) }
 
-  -- ---- as the code has it
-
-  module _ (d : Desk) (own : d ≡ getD ds p noDesk) (t : List ℕ) (lent : t ≡ trayIn (398 * n) trays p) (a : Act) (r : Making) (gave : r ≡ makeOf d p a t latest) where
-    makes-is : r ≡ makes a
-    makes-is = gave ∙ ap (λ (x : Desk). makeOf x p a t latest) (own ∙ so .desk-is p l) ∙ ap (λ (x : List ℕ). makeOf (s .desk p) p a x latest) (lent ∙ so .tray-is p l)
-
-    pub follows : SenderThere n a → (step : Step) → saidAct p a ≡ some step → Follows a step r
-    follows there step e = subst (Follows a step) (sym makes-is) (subst (Shown a) e (by-act a there))
-
-    pub nothing-done : saidAct p a ≡ none → Stays a r
-    nothing-done e = subst (Stays a) (sym makes-is) (by-none a e)
-      where
-        by-none : (b : Act) → saidAct p b ≡ none → Stays b (makes b)
-        by-none (act.Write cell c) z = absurd (some-is-not-none z)
-        by-none (act.Read cell) z = absurd (some-is-not-none z)
-        by-none act.Send z = absurd (some-is-not-none z)
-        by-none (act.Deliver q) z = absurd (some-is-not-none z)
-        by-none act.Take z = absurd (some-is-not-none z)
-        by-none act.Bad z = record { said-is = refl; as-long = tray-long; stands = untouched }
+  -- as the code has it
+  pub follows : (d : Desk) → d ≡ getD ds p noDesk → (t : List ℕ) → t ≡ trayIn (398 * n) trays p
+      → (a : Act) → SenderThere n a → (r : StepDone) → r ≡ makeOf d p a t latest → Follows (says a) r
+  follows d own t lent a there r gave =
+      let is : r ≡ makes a =
+      gave ∙ ap (λ (x : Desk). makeOf x p a t latest) (own ∙ so .desk-is p l) ∙ ap (λ (x : List ℕ). makeOf (s .desk p) p a x latest) (lent ∙ so .tray-is p l)
+      in
+      subst (Follows (says a)) (sym is) (by-act a there)
 
 -- ---- at the start
 

@@ -1,6 +1,6 @@
 -- What `play_shelf` and `play` know at each return (src/lib.rt), and that it is what `printed` says (specs/Rounds.antt).
---   opens-says, mode-by-head          a desk that can be opened: its numbers, and its mode
---   desks-open, can-run, shelf-played `play_shelf`
+--   opens-says                        a desk that can be opened: its numbers
+--   can-run, shelf-played             `play_shelf`
 --   plays                             a set for `search`: `play`
 -- Assumes nothing.
 use Prim.Native.Nat.{ℕ, _+_, _-_, _<_, _≤_}
@@ -9,20 +9,19 @@ use mathlib.Core.Bool.{Bool, true, false, cond, _||_, false≢true}
 use mathlib.Core.List.{List, [], _∷_, _++_}
 use mathlib.Core.Option.{Option}
 use native.Mathlib.Omega.{arith}
-use lib.Dec.{ltb}
+use lib.Dec.{eqb, ltb}
 use lib.ListN.{length, take, drop, length-append}
 use lib.Seq.{length-take-le}
-use borrow.Author.Tests.{ltb-false}
+use borrow.Author.Tests.{ltb-false, eq-eqb}
 use Rattle.laying.specs.Laying.{laidOver}
 use Rattle.laying.proofs.Laws.{laid-behind}
 use Rattle.tray.proofs.Laws.Parts.{laid-long}
-use Rattle.desk.specs.declared.Outcome.{Outcome}
-use Rattle.desk.specs.Answers.{opened, Done, outcome}
+use Rattle.desk.specs.Answers.{opened, Done}
 use Rattle.desk.specs.Calls.{modeFor, openRules, blankDesk, freshHead, openOf}
 use Rattle.desk.proofs.Laws.Allowed.{OpenAllowed, open-allows}
 use Rattle.runs.proofs.Laws.Steps.{by-call}
 use Rattle.text.specs.Text.{text}
-use Rattle.text.specs.Parts.{firstPart, lineFeed}
+use Rattle.text.specs.Separated.{firstPart, lineFeed}
 use Rattle.schedule.specs.Lines.{Line, ended, linesOf}
 use Rattle.schedule.specs.Start.{Start, startIn, saidStart}
 use Rattle.schedule.specs.declared.Start as declared
@@ -30,7 +29,7 @@ use Rattle.schedule.specs.declared.Start.the-variants as cases
 use Rattle.schedule.proofs.Laws.Lines.{no-lines}
 use Rattle.printing.specs.Printing.{wrote, headerText}
 use Rattle.play.specs.Rounds.{tooLong, isAnswered, opens, badStart, runText, linesText, printed, Prints}
-use Rattle.play.specs.Parts.Running.{Runs, runOf, Plays, shelfText}
+use Rattle.play.specs.Parts.Running.{Runs, runOf, Ran, modeInForce, ShelfPlays, shelfText}
 use Rattle.play.proofs.Laws.Lines.{ended-here, cut-here}
 use Rattle.play.proofs.Laws.Playing.{line-laid, line-end}
 
@@ -49,23 +48,34 @@ opens-says n m mode =
     (λ k first e. absurd (false≢true e))
     (λ silent e. open-allows n m 0 mode silent)
 
--- the mode in force is an opened desk's
-pub mode-by-head : (n m mode : ℕ) → opens (record { n = n; m = m; mode = mode }) ≡ true → (o : Outcome) → outcome o [] ≡ openOf n m 0 mode → o .desk .head .mode ≡ modeFor mode
-unfolding openOf
-mode-by-head n m mode can o is =
-    ap (λ (x : Done). x .desk .head .mode) is
-    ∙ by-call (λ (x : Done). isAnswered (x .answer) ≡ true → x .desk .head .mode ≡ modeFor mode) (openRules n m 0 mode) (blankDesk (freshHead 0 0 0 0)) [] opened
-    (blankDesk (freshHead n m 0 (modeFor mode)))
-    []
-    (λ k first e. absurd (false≢true e))
-    (λ silent e. refl)
-    can
+-- the mode in force is 0 exactly if a desk can't be opened
+record InForce (x : Start) : Type 0 where
+  can-open : opens x ≡ true
+  mode-is : modeInForce x ≡ modeFor (x .mode)
 
-module _ (input : List ℕ) (from n m mode : ℕ) (out : List ℕ) (asked : Plays input from (record { n = n; m = m; mode = mode }) out) where
-  pub desks-open : opens (record { n = n; m = m; mode = mode }) ≡ true
-  desks-open = asked .can-open
+no-mode : (mode : ℕ) → modeFor mode ≡ 0 → ⊥
+no-mode mode e = by-test (eqb mode 0) refl
+  where
+    by-test : (b : Bool) → eqb mode 0 ≡ b → ⊥
+    by-test true t = let two : _≡_ {A = ℕ} 2 0 = sym (ap (λ (c : Bool). cond c 2 mode) t) ∙ e in omega arith
+    by-test false t = let same : mode ≡ 0 = sym (ap (λ (c : Bool). cond c 2 mode) t) ∙ e in false≢true (sym t ∙ eq-eqb mode 0 same)
 
-  module _ (force : ℕ) (force-is : force ≡ modeFor mode) (out₁ : List ℕ) (at : ℕ) (put : record { bytes = out₁; end = at } ≡ wrote out 0 (headerText n m force)) (near : at ≤ 0 + 64) where
+none-opens : (x : Start) → modeInForce x ≡ 0 → opens x ≡ false
+none-opens x e = by-test (opens x) refl
+  where
+    by-test : (b : Bool) → opens x ≡ b → opens x ≡ false
+    by-test true t = absurd (no-mode (x .mode) (sym (ap (λ (c : Bool). cond c (modeFor (x .mode)) 0) t) ∙ e))
+    by-test false t = t
+
+all-open : (x : Start) → (modeInForce x ≡ 0 → ⊥) → InForce x
+all-open x some-mode = by-test (opens x) refl
+  where
+    by-test : (b : Bool) → opens x ≡ b → InForce x
+    by-test true t = record { can-open = t; mode-is = ap (λ (c : Bool). cond c (modeFor (x .mode)) 0) t }
+    by-test false t = absurd (some-mode (ap (λ (c : Bool). cond c (modeFor (x .mode)) 0) t))
+
+module _ (input : List ℕ) (from n m mode force : ℕ) (out : List ℕ) (asked : ShelfPlays input from (record { n = n; m = m; mode = mode }) force out) where
+  module _ (out₁ : List ℕ) (at : ℕ) (put : record { bytes = out₁; end = at } ≡ wrote out 0 (headerText n m force)) (near : at ≤ 0 + 64) where
     room : 0 + 64 ≤ length out
     room = omega (arith, asked .long)
 
@@ -87,7 +97,7 @@ module _ (input : List ℕ) (from n m mode : ℕ) (out : List ℕ) (asked : Play
           room = omega (arith, near, asked .few-lines, asked .long, ap (λ (l : List ℕ). length l) header-laid ∙ laid-long out 0 (headerText n m force));
         }
 
-    module _ (out₂ : List ℕ) (r : ℕ) (ran : out₂ ≡ laidOver out₁ at (runOf input from n m mode)) (size : r ≡ at + length (runOf input from n m mode)) (most : r ≤ length out₁) where
+    module _ (out₂ : List ℕ) (r : ℕ) (ran : Ran (runOf input from n m mode) out₁ at out₂ r) where
       abbrev header : List ℕ
       header = headerText n m force
 
@@ -95,22 +105,22 @@ module _ (input : List ℕ) (from n m mode : ℕ) (out : List ℕ) (asked : Play
       steps = runOf input from n m mode
 
       in-room : r ≤ 64064
-      in-room = omega (arith, most, asked .long, ap (λ (l : List ℕ). length l) header-laid ∙ laid-long out 0 header)
+      in-room = omega (arith, ran .room, asked .long, ap (λ (l : List ℕ). length l) header-laid ∙ laid-long out 0 header)
 
       r-is : r ≡ length (header ++ steps)
-      r-is = omega (arith, size, header-end, length-append header steps)
+      r-is = omega (arith, ran .ends, header-end, length-append header steps)
 
       pub shelf-played : Prints (shelfText input from (record { n = n; m = m; mode = mode })) out out₂ r
       shelf-played =
           record {
             bytes =
-                ran
+                ran .bytes
                 ∙ ap (λ (l : List ℕ). laidOver l at steps) header-laid
                 ∙ ap (λ (z : ℕ). laidOver (laidOver out 0 header) z steps) header-end
-                ∙ laid-behind out 0 header steps (omega (arith, header-end, size, in-room, asked .long))
-                ∙ ap (λ (f : ℕ). laidOver out 0 (headerText n m f ++ steps)) force-is;
-            long = r-is ∙ ap (λ (f : ℕ). length (headerText n m f ++ steps)) force-is;
-            room = omega (arith, in-room, asked .long, ap (λ (l : List ℕ). length l) (ran ∙ ap (λ (l : List ℕ). laidOver l at steps) header-laid) ∙ laid-long (laidOver out 0 header) at steps ∙ laid-long out 0 header);
+                ∙ laid-behind out 0 header steps (omega (arith, header-end, ran .ends, in-room, asked .long))
+                ∙ ap (λ (f : ℕ). laidOver out 0 (headerText n m f ++ steps)) (asked .in-force);
+            long = r-is ∙ ap (λ (f : ℕ). length (headerText n m f ++ steps)) (asked .in-force);
+            room = omega (arith, in-room, asked .long, ap (λ (l : List ℕ). length l) (ran .bytes ∙ ap (λ (l : List ℕ). laidOver l at steps) header-laid) ∙ laid-long (laidOver out 0 header) at steps ∙ laid-long out 0 header);
           }
 
 -- ---- the whole
@@ -166,21 +176,25 @@ module _ (input out : List ℕ) (long : length out ≡ 64064) where
             pub played-bad : s ≡ cases.Bad → (out′ : List ℕ) → out′ ≡ laidOver out 0 (text "bad start\n") → (r : ℕ) → r ≡ length (text "bad start\n") → Prints (printed input) out out′ r
             played-bad e = bad-start (by-start ∙ ap (λ (x : declared.Start). runText (saidStart x) (linesOf (drop (end + 1) input))) e)
 
-            module _ (n m mode : ℕ) (is : s ≡ cases.Shelf n m mode) (opening : Bool) (opening-is : opening ≡ opens (record { n = n; m = m; mode = mode })) where
-              by-opening : printed input ≡ cond opening (shelfText input (end + 1) (record { n = n; m = m; mode = mode })) badStart
-              by-opening =
+            module _ (n m mode : ℕ) (is : s ≡ cases.Shelf n m mode) (force : ℕ) (force-is : force ≡ modeInForce (record { n = n; m = m; mode = mode })) where
+              by-opening : {b : Bool} → opens (record { n = n; m = m; mode = mode }) ≡ b → printed input ≡ cond b (shelfText input (end + 1) (record { n = n; m = m; mode = mode })) badStart
+              by-opening e =
                   by-start
                   ∙ ap (λ (x : declared.Start). runText (saidStart x) (linesOf (drop (end + 1) input))) is
-                  ∙ ap (λ (b : Bool). cond b (shelfText input (end + 1) (record { n = n; m = m; mode = mode })) badStart) (sym opening-is)
+                  ∙ ap (λ (b : Bool). cond b (shelfText input (end + 1) (record { n = n; m = m; mode = mode })) badStart) e
 
-              pub played-none : opening ≡ false → (out′ : List ℕ) → out′ ≡ laidOver out 0 (text "bad start\n") → (r : ℕ) → r ≡ length (text "bad start\n") → Prints (printed input) out out′ r
-              played-none e = bad-start (by-opening ∙ ap (λ (b : Bool). cond b (shelfText input (end + 1) (record { n = n; m = m; mode = mode })) badStart) e)
+              pub played-none : force ≡ 0 → (out′ : List ℕ) → out′ ≡ laidOver out 0 (text "bad start\n") → (r : ℕ) → r ≡ length (text "bad start\n") → Prints (printed input) out out′ r
+              played-none e = bad-start (by-opening (none-opens (record { n = n; m = m; mode = mode }) (sym force-is ∙ e)))
 
-              module _ (on : opening ≡ true) where
-                pub can-play : Plays input (end + 1) (record { n = n; m = m; mode = mode }) out
+              module _ (on : force ≡ 0 → ⊥) where
+                opened-so : InForce (record { n = n; m = m; mode = mode })
+                opened-so = all-open (record { n = n; m = m; mode = mode }) (λ e. on (force-is ∙ e))
+
+                pub can-play : ShelfPlays input (end + 1) (record { n = n; m = m; mode = mode }) force out
                 can-play =
                     record {
-                      can-open = sym opening-is ∙ on;
+                      can-open = opened-so .can-open;
+                      in-force = force-is ∙ opened-so .mode-is;
                       few-bytes = few-bytes;
                       within-input = omega arith;
                       few-lines = omega (arith, few-lines, ap (λ (ls : List Line). length ls) first-line);
@@ -188,9 +202,7 @@ module _ (input out : List ℕ) (long : length out ≡ 64064) where
                     }
 
                 pub played-shelf : (out′ : List ℕ) (r : ℕ) → Prints (shelfText input (end + 1) (record { n = n; m = m; mode = mode })) out out′ r → Prints (printed input) out out′ r
-                played-shelf =
-                    by-text (shelfText input (end + 1) (record { n = n; m = m; mode = mode }))
-                    (by-opening ∙ ap (λ (b : Bool). cond b (shelfText input (end + 1) (record { n = n; m = m; mode = mode })) badStart) on)
+                played-shelf = by-text (shelfText input (end + 1) (record { n = n; m = m; mode = mode })) (by-opening (opened-so .can-open))
 
 -- the first line, as it is lent
 pub first-long : (input : List ℕ) (end : ℕ) → end < length input → end ≡ length (take end input)

@@ -1,7 +1,7 @@
 -- `mode_in_force` meets its contract (`mode-by-head`).
 -- Assumes nothing.
 use borrow.Author.Needs.{needs}
-use Rattle.play.proofs.Laws.Whole.{mode-by-head}
+use Rattle.play.proofs.Laws.Running.{mode-by-head}
 use Rattle.play.proofs.mode_in_force.Statement.{statement}
 use Rattle.play.proofs.mode_in_force.Tie as tie
 

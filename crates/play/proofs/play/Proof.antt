@@ -47,23 +47,23 @@ put-alone-requires-3 c κs = search needs
 enum-known-n : tie.Need-enum-known-n
 enum-known-n c = search needs
 
-opens-so-requires : tie.Need-opens-so-requires
-opens-so-requires c κs = search needs
-
-add-play-shelf : tie.Need-add-play-shelf
-add-play-shelf c = search needs
-
-play-shelf-requires : tie.Need-play-shelf-requires
-play-shelf-requires c κs = search (plays, needs)
-
-returns-3 : tie.Need-returns-3
-returns-3 c = search (plays, needs)
+mode-in-force-requires : tie.Need-mode-in-force-requires
+mode-in-force-requires c κs = search needs
 
 slice-aggregate-put-alone-4 : tie.Need-slice-aggregate-put-alone-4
 slice-aggregate-put-alone-4 c = search needs
 
 put-alone-requires-4 : tie.Need-put-alone-requires-4
 put-alone-requires-4 c κs = search needs
+
+returns-3 : tie.Need-returns-3
+returns-3 c = search (plays, needs)
+
+add-play-shelf : tie.Need-add-play-shelf
+add-play-shelf c = search needs
+
+play-shelf-requires : tie.Need-play-shelf-requires
+play-shelf-requires c κs = search (plays, needs)
 
 returns-4 : tie.Need-returns-4
 returns-4 c = search (plays, needs)
@@ -89,11 +89,11 @@ play-spec =
     slice-aggregate-put-alone-3
     put-alone-requires-3
     enum-known-n
-    opens-so-requires
-    add-play-shelf
-    play-shelf-requires
-    returns-3
+    mode-in-force-requires
     slice-aggregate-put-alone-4
     put-alone-requires-4
+    returns-3
+    add-play-shelf
+    play-shelf-requires
     returns-4
     returns-5)

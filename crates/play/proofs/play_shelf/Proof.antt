@@ -1,12 +1,9 @@
 -- `play_shelf` meets its contract: the header, and behind it the steps (`shelf-played`).
 -- Assumes nothing.
 use borrow.Author.Needs.{needs}
-use Rattle.play.proofs.Laws.Whole.{desks-open, can-run, shelf-played}
+use Rattle.play.proofs.Laws.Whole.{can-run, shelf-played}
 use Rattle.play.proofs.play_shelf.Statement.{statement}
 use Rattle.play.proofs.play_shelf.Tie as tie
-
-mode-in-force-requires : tie.Need-mode-in-force-requires
-mode-in-force-requires c κs = search (desks-open, needs)
 
 put-header-requires : tie.Need-put-header-requires
 put-header-requires c κs = search needs
@@ -23,4 +20,4 @@ returns c = search (shelf-played, needs)
 pub play-shelf-spec : {M : Type 1} → statement M
 play-shelf-spec =
     tie.close
-    (tie.spec mode-in-force-requires put-header-requires run-requires same-length returns)
+    (tie.spec put-header-requires run-requires same-length returns)

@@ -8,17 +8,15 @@ use mathlib.Core.List.{List, [], _++_}
 use mathlib.Core.Option.{Option, none}
 use lib.Dec.{ltb}
 use lib.ListN.{length, getD, take, drop, replicate}
+use Rattle.laying.specs.Laying.{laidOver}
 use Rattle.desk.specs.declared.Desk.{Desk}
 use Rattle.desk.specs.Calls.{modeFor, openOf}
 use Rattle.runs.specs.Run.{start}
-use Rattle.acting.specs.declared.Act.{Act}
-use Rattle.acting.specs.declared.Act.the-variants as act
-use Rattle.acting.specs.Step.{Step}
 use Rattle.schedule.specs.Lines.{ended, linesOf}
 use Rattle.schedule.specs.Start.{Start}
-use Rattle.schedule.specs.Step.{stepIn}
+use Rattle.schedule.specs.Step.{Step, stepIn}
 use Rattle.printing.specs.Printing.{headerText}
-use Rattle.play.specs.Rounds.{stepsText, opens}
+use Rattle.play.specs.Rounds.{stepAnswers, numbered, opens}
 
 -- what a list of desks has past its end, as Rattle reads an array: zeros, and arrays of nothing. No call reads it
 abbrev pub noDesk : Desk
@@ -40,16 +38,7 @@ noSheets = replicate 6368 0
 abbrev pub stepAt : ℕ → List ℕ → ℕ → ℕ → Option Step
 stepAt n input from end = cond (ltb end (length input)) (stepIn n (ended (take (end - from) (drop from input)))) none
 
--- where the next line starts; the end of the input, where the run ends
-abbrev pub nextAt : Act → ℕ → ℕ → ℕ
-nextAt (act.Write cell c) end size = end + 1
-nextAt (act.Read cell) end size = end + 1
-nextAt act.Send end size = end + 1
-nextAt (act.Deliver q) end size = end + 1
-nextAt act.Take end size = end + 1
-nextAt act.Bad end size = size
-
--- what is asked of `run`: desks that can be opened, no more bytes than 16,384, lines from `from` on, no more than 1,000, and room for them
+-- what is asked of `run`: 1 to 16 desks, no more bytes than 16,384, lines from `from` on, no more than 1,000, and room for them
 pub record Runs (input : List ℕ) (from n : ℕ) (out : List ℕ) (at : ℕ) : Type 0 where
   pub some-desks : 1 ≤ n
   pub few-desks : n ≤ 16
@@ -60,11 +49,23 @@ pub record Runs (input : List ℕ) (from n : ℕ) (out : List ℕ) (at : ℕ) : 
 
 -- the text of the steps from `from` on
 abbrev pub runOf : List ℕ → (from n m mode : ℕ) → List ℕ
-runOf input from n m mode = stepsText n 1 (start (record { n = n; m = m; mode = λ p. mode })) (linesOf (drop from input))
+runOf input from n m mode = numbered 1 (stepAnswers n (start (record { n = n; m = m; mode = λ p. mode })) (linesOf (drop from input)))
 
--- what is asked of `play_shelf`: desks that can be opened, and lines from `from` on, no more than 1,000 of them and no more bytes than 16,384
-pub record Plays (input : List ℕ) (from : ℕ) (x : Start) (out : List ℕ) : Type 0 where
+-- this text laid over a buffer from `at` on, and where it ends, within the buffer
+pub record Ran (x out : List ℕ) (at : ℕ) (out′ : List ℕ) (end : ℕ) : Type 0 where
+  pub bytes : out′ ≡ laidOver out at x
+  pub ends : end ≡ at + length x
+  pub room : end ≤ length out
+
+-- the mode in force; 0, which is none, where a desk can't be opened
+abbrev pub modeInForce : Start → ℕ
+modeInForce x = cond (opens x) (modeFor (x .mode)) 0
+
+-- what is asked of `play_shelf`: desks that can be opened, the mode in force, and lines from `from` on, no more than 1,000 of them and no more
+-- bytes than 16,384
+pub record ShelfPlays (input : List ℕ) (from : ℕ) (x : Start) (force : ℕ) (out : List ℕ) : Type 0 where
   pub can-open : opens x ≡ true
+  pub in-force : force ≡ modeFor (x .mode)
   pub few-bytes : length input ≤ 16384
   pub within-input : from ≤ length input
   pub few-lines : length (linesOf (drop from input)) ≤ 1000

@@ -11,8 +11,8 @@ use lib.ListN.{length}
 use borrow.Author.Tests.{le-leb, lt-leb}
 use Rattle.text.specs.Text.{text}
 use Rattle.text.specs.Decimal.{decimal}
-use Rattle.acting.specs.Said.{Said}
-use Rattle.printing.specs.Printing.{saidText, lineText, letterText, headerText, wrote}
+use Rattle.printing.specs.StepAnswer.{StepAnswer}
+use Rattle.printing.specs.Printing.{stepAnswerText, lineText, letterText, headerText, wrote}
 use Rattle.printing.specs.Parts.{Puts, modeText}
 use Rattle.printing.proofs.Laws.Puts.{puts-same, _then_}
 
@@ -45,11 +45,11 @@ header-laid b at n m mode b₁ a₁ b₂ a₂ b₃ a₃ p q r =
 
 -- ---- the line of a step
 
-pub line-laid : (b : List ℕ) (at number : ℕ) (s : Said) (b₁ : List ℕ) (a₁ : ℕ) (b₂ : List ℕ) (a₂ : ℕ) (b₃ : List ℕ) (a₃ : ℕ) (b₄ : List ℕ) (a₄ : ℕ)
+pub line-laid : (b : List ℕ) (at number : ℕ) (a : StepAnswer) (b₁ : List ℕ) (a₁ : ℕ) (b₂ : List ℕ) (a₂ : ℕ) (b₃ : List ℕ) (a₃ : ℕ) (b₄ : List ℕ) (a₄ : ℕ)
     → Puts 10 b at (decimal number) b₁ a₁
     → Puts 1 b₁ a₁ (text " ") b₂ a₂
-    → Puts 40 b₂ a₂ (saidText s) b₃ a₃
+    → Puts 40 b₂ a₂ (stepAnswerText a) b₃ a₃
     → Puts 1 b₃ a₃ (text "\n") b₄ a₄
-    → Puts 52 b at (lineText number s) b₄ a₄
+    → Puts 52 b at (lineText number a) b₄ a₄
 unfolding lineText
-line-laid b at number s b₁ a₁ b₂ a₂ b₃ a₃ b₄ a₄ p q r t = p then q then r then t
+line-laid b at number a b₁ a₁ b₂ a₂ b₃ a₃ b₄ a₄ p q r t = p then q then r then t

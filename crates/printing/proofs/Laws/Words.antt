@@ -1,6 +1,6 @@
 -- Laws of the texts of a line (specs/Printing.antt, specs/Parts.antt), as the code lays them: what each function knows where it returns, and
 -- which text it then has laid. Each set is for `search`.
---   modes-laid, contents-laid, takes-laid, answers-laid, saids-laid
+--   modes-laid, contents-laid, takes-laid, answers-laid, steps-laid
 -- Assumes nothing.
 use mathlib.Core.Path.{_≡_, sym}
 use mathlib.Core.List.{List, _++_, append-assoc}
@@ -15,10 +15,10 @@ use Rattle.text.specs.Decimal.{decimal, signedDecimal}
 use Rattle.desk.specs.declared.Answer as desk
 use Rattle.desk.specs.declared.Answer.the-variants as answer
 use Rattle.desk.specs.Answers.{said}
-use Rattle.acting.specs.declared.Said as acting
-use Rattle.acting.specs.declared.Said.the-variants as saids
-use Rattle.acting.specs.Said.{saying}
-use Rattle.printing.specs.Printing.{contentText, answerText, saidText}
+use Rattle.printing.specs.declared.StepAnswer as declared
+use Rattle.printing.specs.declared.StepAnswer.the-variants as cases
+use Rattle.printing.specs.StepAnswer.{saidStepAnswer}
+use Rattle.printing.specs.Printing.{contentText, answerText, stepAnswerText}
 use Rattle.printing.specs.Parts.{Puts, sentText, takenText, modeText}
 use Rattle.printing.proofs.Laws.Puts.{puts-same, puts-of, _then_}
 
@@ -124,17 +124,17 @@ pub ruleset answers-laid =
 
 -- ---- what a step comes to
 
-module _ (b : List ℕ) (at : ℕ) (s : acting.Said) (b′ : List ℕ) (end : ℕ) where
-  abbrev textOf : acting.Said → List ℕ
-  textOf x = saidText (saying x)
+module _ (b : List ℕ) (at : ℕ) (s : declared.StepAnswer) (b′ : List ℕ) (end : ℕ) where
+  abbrev textOf : declared.StepAnswer → List ℕ
+  textOf x = stepAnswerText (saidStepAnswer x)
 
-  pub answer-laid : (a : desk.Answer) → s ≡ saids.Answers a → Puts 40 b at (answerText (said a)) b′ end → Puts 40 b at (saidText (saying s)) b′ end
+  pub answer-laid : (a : desk.Answer) → s ≡ cases.OfCall a → Puts 40 b at (answerText (said a)) b′ end → Puts 40 b at (stepAnswerText (saidStepAnswer s)) b′ end
   answer-laid a e p = puts-of textOf 40 (omega arith) e p
 
-  pub nothing-laid : s ≡ saids.NothingSent → Puts 12 b at (text "nothing sent") b′ end → Puts 40 b at (saidText (saying s)) b′ end
+  pub nothing-laid : s ≡ cases.NothingSent → Puts 12 b at (text "nothing sent") b′ end → Puts 40 b at (stepAnswerText (saidStepAnswer s)) b′ end
   nothing-laid e p = puts-of textOf 40 (omega arith) e p
 
-  pub bad-laid : s ≡ saids.BadLine → Puts 8 b at (text "bad line") b′ end → Puts 40 b at (saidText (saying s)) b′ end
+  pub bad-laid : s ≡ cases.BadLine → Puts 8 b at (text "bad line") b′ end → Puts 40 b at (stepAnswerText (saidStepAnswer s)) b′ end
   bad-laid e p = puts-of textOf 40 (omega arith) e p
 
-pub ruleset saids-laid = (answer-laid, nothing-laid, bad-laid)
+pub ruleset steps-laid = (answer-laid, nothing-laid, bad-laid)

@@ -24,8 +24,8 @@ slice-aggregate-put-text c = search needs
 put-text-requires : tie.Need-put-text-requires
 put-text-requires c κs = search needs
 
-put-said-requires : tie.Need-put-said-requires
-put-said-requires c κs = search needs
+put-step-answer-requires : tie.Need-put-step-answer-requires
+put-step-answer-requires c κs = search needs
 
 slice-aggregate-put-text-2 : tie.Need-slice-aggregate-put-text-2
 slice-aggregate-put-text-2 c = search needs
@@ -49,7 +49,7 @@ put-line-spec =
     put-number-requires
     slice-aggregate-put-text
     put-text-requires
-    put-said-requires
+    put-step-answer-requires
     slice-aggregate-put-text-2
     put-text-requires-2
     same-length

@@ -21,7 +21,7 @@ use Rattle.content.specs.declared.Content.{Content}
 use Rattle.content.specs.declared.Content.the-variants.{Blank, Open, Day}
 use Rattle.numbers.specs.Limits.{within}
 use Rattle.text.specs.declared.Decimal.{Decimal}
-use Rattle.text.specs.Parts.{firstPart, space}
+use Rattle.text.specs.Separated.{firstPart, space}
 use Rattle.text.specs.Decimal.{isDecimal, valueFrom, value, beyond, decimalAt}
 use Rattle.text.proofs.Laws.Decimal.{and-split}
 use Rattle.text.proofs.Laws.Parts.{empty, part-room, part-goes-on, part-on}
@@ -155,14 +155,14 @@ within-off k h = rw (lt-leb k 2147483648 (omega arith)) (and-false (leb 1 k))
 -- ---- contents
 
 -- what a word that ends at n says
-abbrev said : List ℕ → ℕ → Given
-said word n = record { ok = isContent word; content = cond (isContent word) (contentIn word) Blank; end = n }
+abbrev contentGiven : List ℕ → ℕ → Given
+contentGiven word n = record { ok = isContent word; content = cond (isContent word) (contentIn word) Blank; end = n }
 
 abbrev open-if : Bool → ℕ → Given
 open-if t n = record { ok = t; content = cond t Open Blank; end = n }
 
 -- one that begins with an o is no day
-open-given : (rest : List ℕ) (n : ℕ) → open-if (is "open" (111 ∷ rest)) n ≡ said (111 ∷ rest) n
+open-given : (rest : List ℕ) (n : ℕ) → open-if (is "open" (111 ∷ rest)) n ≡ contentGiven (111 ∷ rest) n
 unfolding isContent contentIn isDay isDecimal
 open-given rest n = by-test (is "open" (111 ∷ rest)) (Day (dayIn (111 ∷ rest)))
   where
@@ -171,7 +171,7 @@ open-given rest n = by-test (is "open" (111 ∷ rest)) (Day (dayIn (111 ∷ rest
     by-test false x = refl
 
 -- one that begins with a minus is a day below 0 or nothing
-minus-given : (rest : List ℕ) (n : ℕ) → Givens (isDecimal rest) (value rest) (λ v. negsuc (v - 1)) (within 1 2147483648) n ≡ said (45 ∷ rest) n
+minus-given : (rest : List ℕ) (n : ℕ) → Givens (isDecimal rest) (value rest) (λ v. negsuc (v - 1)) (within 1 2147483648) n ≡ contentGiven (45 ∷ rest) n
 unfolding isContent contentIn isDay dayIn is
 minus-given rest n = refl
 

@@ -14,7 +14,7 @@ use lib.Seq.{drop-cons, take-all}
 use borrow.Author.Tests.{lt-ltb, le-ltb}
 use mir.Syntax.{w64}
 use mir.Val.{Fits, boolByte}
-use Rattle.text.specs.Parts.{parts, firstPart, ontoFirst, lineFeed}
+use Rattle.text.specs.Separated.{parts, firstPart, ontoFirst, lineFeed}
 use Rattle.text.proofs.Laws.Parts.{parts-on, part-taken}
 use Rattle.schedule.specs.Lines.{ended, cut, lastLine, linesIn, linesOf}
 

@@ -2,7 +2,7 @@
 --   write-found, write-bad          writes-read
 --   read-found, read-bad            reads-read
 --   deliver-found, deliver-bad      delivers-read
---   alone-found, alone-bad          alones-read
+--   desk-found, desk-bad            desks-read
 --   step-w .. step-t, step-other    steps-read
 -- What callers may want to know of a step is in proofs/Laws/Steps.antt.
 -- Assumes nothing.
@@ -15,13 +15,11 @@ use native.Mathlib.Omega.{arith}
 use lib.Dec.{leb, ltb, eqb}
 use lib.ListN.{length, drop-of-length-le}
 use borrow.Author.Tests.{ltb-false, ne-eqb}
-use Rattle.acting.specs.declared.Act.{Act}
-use Rattle.acting.specs.declared.Act.the-variants as act
-use Rattle.acting.specs.declared.Step as declared
-use Rattle.acting.specs.Step.{writes, reads, sends, delivers, takes, Step, saidAct, saidStep, deskIfBad}
+use Rattle.schedule.specs.declared.Step as declared
+use Rattle.schedule.specs.Step.{Act, writes, reads, sends, delivers, takes, Step, saidStep}
 use Rattle.content.specs.declared.Content.{Content}
 use Rattle.content.specs.declared.Content.the-variants.{Blank}
-use Rattle.text.specs.Parts.{parts, space}
+use Rattle.text.specs.Separated.{parts, space}
 use Rattle.text.specs.Decimal.{isDecimal, value}
 use Rattle.text.proofs.Laws.Parts.{parts-on}
 use Rattle.schedule.specs.declared.words.Number.{Number}
@@ -29,8 +27,8 @@ use Rattle.schedule.specs.declared.words.Letter.{Letter}
 use Rattle.schedule.specs.declared.words.Given.{Given}
 use Rattle.schedule.specs.Lines.{ended}
 use Rattle.schedule.specs.Words.{is, isNumber, isDesk, isContent, contentIn}
-use Rattle.schedule.specs.Step.{writeIn, readIn, deliverIn, actIn, stepOf, stepIn}
-use Rattle.schedule.specs.Parts.{wordAt, wordsAt, numberAt, contentAt, letterOf, letterAt, aloneIn, NotBad}
+use Rattle.schedule.specs.Step.{writeIn, readIn, deliverIn, deskIn, stepOf, stepIn}
+use Rattle.schedule.specs.Parts.{wordAt, wordsAt, numberAt, contentAt, letterOf, letterAt}
 use Rattle.schedule.proofs.Laws.Words.{not-before, letter-is}
 
 -- where the word ends that starts at a place
@@ -107,8 +105,8 @@ module _ (line : List ℕ) (from n : ℕ) where
     pub read-found : read-test n (length line) p cell ≡ true → some (record { desk = p .value; act = reads (cell .value) }) ≡ readIn n (wordsAt line from)
     read-found t = sym (reads-by-code ∙ rw t)
 
-    pub read-bad : read-test n (length line) p cell ≡ false → (b : declared.Step) → saidStep b ≡ none → saidStep b ≡ readIn n (wordsAt line from)
-    read-bad t b is = is ∙ sym (reads-by-code ∙ rw t)
+    pub read-bad : read-test n (length line) p cell ≡ false → none ≡ readIn n (wordsAt line from)
+    read-bad t = sym (reads-by-code ∙ rw t)
 
 pub ruleset reads-read = (read-found, read-bad)
 
@@ -155,8 +153,8 @@ module _ (line : List ℕ) (from n : ℕ) where
     pub deliver-found : deliver-test n (length line) q p ≡ true → some (record { desk = p .value; act = delivers (q .value) }) ≡ deliverIn n (wordsAt line from)
     deliver-found t = sym (delivers-by-code ∙ rw t)
 
-    pub deliver-bad : deliver-test n (length line) q p ≡ false → (b : declared.Step) → saidStep b ≡ none → saidStep b ≡ deliverIn n (wordsAt line from)
-    deliver-bad t b is = is ∙ sym (delivers-by-code ∙ rw t)
+    pub deliver-bad : deliver-test n (length line) q p ≡ false → none ≡ deliverIn n (wordsAt line from)
+    deliver-bad t = sym (delivers-by-code ∙ rw t)
 
 pub ruleset delivers-read = (deliver-found, deliver-bad)
 
@@ -215,66 +213,55 @@ module _ (line : List ℕ) (from n : ℕ) where
     pub write-found : write-test n (length line) p cell c ≡ true → some (record { desk = p .value; act = writes (cell .value) (c .content) }) ≡ writeIn n (wordsAt line from)
     write-found t = sym (writes-by-code ∙ rw t)
 
-    pub write-bad : write-test n (length line) p cell c ≡ false → (b : declared.Step) → saidStep b ≡ none → saidStep b ≡ writeIn n (wordsAt line from)
-    write-bad t b is = is ∙ sym (writes-by-code ∙ rw t)
+    pub write-bad : write-test n (length line) p cell c ≡ false → none ≡ writeIn n (wordsAt line from)
+    write-bad t = sym (writes-by-code ∙ rw t)
 
 pub ruleset writes-read = (write-found, write-bad)
 
 -- ---- "`s` desk", "`t` desk"
 
-alone-by-words : (n : ℕ) (a : Act) (p word : List ℕ) (words : List (List ℕ)) (t : Bool)
-    → aloneIn n a (p ∷ cond t (word ∷ words) []) ≡ cond (not t && isDesk n p) (saidAct (value p) a) none
-alone-by-words n a p word words true = refl
-alone-by-words n a p word words false = refl
+desk-by-words : (n : ℕ) (a : Act) (p word : List ℕ) (words : List (List ℕ)) (t : Bool)
+    → deskIn n a (p ∷ cond t (word ∷ words) []) ≡ cond (not t && isDesk n p) (some (record { desk = value p; act = a })) none
+desk-by-words n a p word words true = refl
+desk-by-words n a p word words false = refl
 
-alone-by-number : (b i : Bool) (n v : ℕ) (a : Act)
-    → cond (b && (i && ltb v n)) (saidAct v a) none ≡ cond (b && (i && ltb (cond i v 0) n)) (saidAct (cond i v 0) a) none
-alone-by-number false i n v a = refl
-alone-by-number true false n v a = refl
-alone-by-number true true n v a = refl
+desk-by-number : (b i : Bool) (n v : ℕ) (a : Act)
+    → _≡_ {A = Option Step}
+    (cond (b && (i && ltb v n)) (some (record { desk = v; act = a })) none)
+    (cond (b && (i && ltb (cond i v 0) n)) (some (record { desk = cond i v 0; act = a })) none)
+desk-by-number false i n v a = refl
+desk-by-number true false n v a = refl
+desk-by-number true true n v a = refl
 
-abbrev alone-test : ℕ → ℕ → Number → Bool
-alone-test n len p = leb len (p .end) && (p .ok && ltb (p .value) n)
+abbrev desk-test : ℕ → ℕ → Number → Bool
+desk-test n len p = leb len (p .end) && (p .ok && ltb (p .value) n)
 
-abbrev alone-of : ℕ → ℕ → Act → Number → Option Step
-alone-of n len a p = cond (alone-test n len p) (saidAct (p .value) a) none
+abbrev desk-of : ℕ → ℕ → Act → Number → Option Step
+desk-of n len a p = cond (desk-test n len p) (some (record { desk = p .value; act = a })) none
 
 module _ (line : List ℕ) (from n : ℕ) (a : Act) where
-  alone-whole : aloneIn n a (wordsAt line from) ≡ alone-of n (length line) a (numberAt line from)
+  desk-whole : deskIn n a (wordsAt line from) ≡ desk-of n (length line) a (numberAt line from)
   unfolding numberAt isDesk
-  alone-whole =
+  desk-whole =
       let len = length line in
       let e₁ = endAt line from in
-      ap (aloneIn n a) (parts-on space line from)
-      ∙ ap (λ (l : List (List ℕ)). aloneIn n a (wordAt line from ∷ cond (ltb e₁ len) l [])) (parts-on space line (e₁ + 1))
-      ∙ alone-by-words n a (wordAt line from) _ _ (ltb e₁ len)
-      ∙ alone-by-number (not (ltb e₁ len)) (isNumber (wordAt line from)) n (value (wordAt line from)) a
+      ap (deskIn n a) (parts-on space line from)
+      ∙ ap (λ (l : List (List ℕ)). deskIn n a (wordAt line from ∷ cond (ltb e₁ len) l [])) (parts-on space line (e₁ + 1))
+      ∙ desk-by-words n a (wordAt line from) _ _ (ltb e₁ len)
+      ∙ desk-by-number (not (ltb e₁ len)) (isNumber (wordAt line from)) n (value (wordAt line from)) a
       ∙ rw (not-before e₁ len)
 
   module _ (p : Number) (p-is : p ≡ numberAt line from) where
-    alone-by-code : aloneIn n a (wordsAt line from) ≡ alone-of n (length line) a p
-    alone-by-code = alone-whole ∙ ap (alone-of n (length line) a) (sym p-is)
+    desk-by-code : deskIn n a (wordsAt line from) ≡ desk-of n (length line) a p
+    desk-by-code = desk-whole ∙ ap (desk-of n (length line) a) (sym p-is)
 
-    pub alone-found : alone-test n (length line) p ≡ true → saidAct (p .value) a ≡ aloneIn n a (wordsAt line from)
-    alone-found t = sym (alone-by-code ∙ rw t)
+    pub desk-found : desk-test n (length line) p ≡ true → some (record { desk = p .value; act = a }) ≡ deskIn n a (wordsAt line from)
+    desk-found t = sym (desk-by-code ∙ rw t)
 
-    pub alone-bad : alone-test n (length line) p ≡ false → (b : declared.Step) → saidStep b ≡ none → saidStep b ≡ aloneIn n a (wordsAt line from)
-    alone-bad t b is = is ∙ sym (alone-by-code ∙ rw t)
+    pub desk-bad : desk-test n (length line) p ≡ false → none ≡ deskIn n a (wordsAt line from)
+    desk-bad t = sym (desk-by-code ∙ rw t)
 
-pub not-bad : (a : Act) → NotBad a → (p : ℕ) → deskIfBad p a
-not-bad a fair p = fair p
-
-pub ruleset alones-read = (alone-found, alone-bad, not-bad)
-
-sends-alone : (n : ℕ) (words : List (List ℕ)) → aloneIn n act.Send words ≡ actIn n sends words
-sends-alone n [] = refl
-sends-alone n (p ∷ []) = refl
-sends-alone n (p ∷ word ∷ words) = refl
-
-takes-alone : (n : ℕ) (words : List (List ℕ)) → aloneIn n act.Take words ≡ actIn n takes words
-takes-alone n [] = refl
-takes-alone n (p ∷ []) = refl
-takes-alone n (p ∷ word ∷ words) = refl
+pub ruleset desks-read = (desk-found, desk-bad)
 
 -- ---- the letter
 
@@ -282,28 +269,28 @@ abbrev by-letter : ℕ → ℕ → List (List ℕ) → Option Step
 by-letter n letter rest =
     cond (eqb letter 119) (writeIn n rest)
     (cond (eqb letter 114) (readIn n rest)
-    (cond (eqb letter 115) (actIn n sends rest)
+    (cond (eqb letter 115) (deskIn n sends rest)
     (cond (eqb letter 100) (deliverIn n rest)
-    (cond (eqb letter 116) (actIn n takes rest) none))))
+    (cond (eqb letter 116) (deskIn n takes rest) none))))
 
 step-by-letter : (n : ℕ) (word : List ℕ) (rest : List (List ℕ)) → stepOf n (word ∷ rest) ≡ by-letter n (letterOf word) rest
 unfolding is
 step-by-letter n word rest = rw (letter-is 119 refl word, letter-is 114 refl word, letter-is 115 refl word, letter-is 100 refl word, letter-is 116 refl word)
 
 -- where no word comes behind the letter, the place behind it has an empty one, which says as little
-module _ (line : List ℕ) (end : ℕ) (said : List (List ℕ) → Option Step) where
-  rest-of : said [] ≡ said ([] ∷ []) → said (cond (ltb end (length line)) (wordsAt line (end + 1)) []) ≡ said (wordsAt line (end + 1))
+module _ (line : List ℕ) (end : ℕ) (step-of : List (List ℕ) → Option Step) where
+  rest-of : step-of [] ≡ step-of ([] ∷ []) → step-of (cond (ltb end (length line)) (wordsAt line (end + 1)) []) ≡ step-of (wordsAt line (end + 1))
   unfolding parts
   rest-of empty-word = by-test (ltb end (length line)) refl
     where
-      by-test : (t : Bool) → ltb end (length line) ≡ t → said (cond t (wordsAt line (end + 1)) []) ≡ said (wordsAt line (end + 1))
+      by-test : (t : Bool) → ltb end (length line) ≡ t → step-of (cond t (wordsAt line (end + 1)) []) ≡ step-of (wordsAt line (end + 1))
       by-test true e = refl
       by-test false e =
           let short : length line ≤ end = ltb-false end (length line) e in
           let past : length line ≤ end + 1 = omega arith in
-          empty-word ∙ ap (λ (l : List ℕ). said (parts space l)) (sym (drop-of-length-le line past))
+          empty-word ∙ ap (λ (l : List ℕ). step-of (parts space l)) (sym (drop-of-length-le line past))
 
-module _ (line : List ℕ) (n : ℕ) (first : Letter) (first-is : first ≡ letterAt line 0) (b : declared.Step) where
+module _ (line : List ℕ) (n : ℕ) (first : Letter) (first-is : first ≡ letterAt line 0) where
   abbrev rest : List (List ℕ)
   rest = cond (ltb (first .end) (length line)) (wordsAt line (first .end + 1)) []
 
@@ -314,25 +301,27 @@ module _ (line : List ℕ) (n : ℕ) (first : Letter) (first-is : first ≡ lett
       ∙ step-by-letter n (wordAt line 0) (cond (ltb (endAt line 0) (length line)) (wordsAt line (endAt line 0 + 1)) [])
       ∙ ap (λ (x : Letter). by-letter n (x .byte) (cond (ltb (x .end) (length line)) (wordsAt line (x .end + 1)) [])) (sym first-is)
 
-  pub step-w : first .byte ≡ 119 → saidStep b ≡ writeIn n (wordsAt line (first .end + 1)) → saidStep b ≡ stepIn n (ended line)
-  step-w e is = is ∙ sym (whole ∙ rw e (rest-of line (first .end) (writeIn n) refl))
+  pub step-other : (first .byte ≡ 119 → ⊥) → (first .byte ≡ 114 → ⊥) → (first .byte ≡ 115 → ⊥) → (first .byte ≡ 100 → ⊥) → (first .byte ≡ 116 → ⊥) → none ≡ stepIn n (ended line)
+  step-other w r s d t =
+      sym (whole ∙ rw (ne-eqb (first .byte) 119 w, ne-eqb (first .byte) 114 r, ne-eqb (first .byte) 115 s, ne-eqb (first .byte) 100 d, ne-eqb (first .byte) 116 t))
 
-  pub step-r : first .byte ≡ 114 → saidStep b ≡ readIn n (wordsAt line (first .end + 1)) → saidStep b ≡ stepIn n (ended line)
-  step-r e is = is ∙ sym (whole ∙ rw e (rest-of line (first .end) (readIn n) refl))
+  -- b is what the rest of the line says
+  module _ (b : declared.Step) where
+    pub step-w : first .byte ≡ 119 → saidStep b ≡ writeIn n (wordsAt line (first .end + 1)) → saidStep b ≡ stepIn n (ended line)
+    step-w e is = is ∙ sym (whole ∙ rw e (rest-of line (first .end) (writeIn n) refl))
 
-  pub step-s : first .byte ≡ 115 → saidStep b ≡ aloneIn n act.Send (wordsAt line (first .end + 1)) → saidStep b ≡ stepIn n (ended line)
-  unfolding isDesk isNumber isDecimal
-  step-s e is = is ∙ sends-alone n (wordsAt line (first .end + 1)) ∙ sym (whole ∙ rw e (rest-of line (first .end) (actIn n sends) refl))
+    pub step-r : first .byte ≡ 114 → saidStep b ≡ readIn n (wordsAt line (first .end + 1)) → saidStep b ≡ stepIn n (ended line)
+    step-r e is = is ∙ sym (whole ∙ rw e (rest-of line (first .end) (readIn n) refl))
 
-  pub step-d : first .byte ≡ 100 → saidStep b ≡ deliverIn n (wordsAt line (first .end + 1)) → saidStep b ≡ stepIn n (ended line)
-  step-d e is = is ∙ sym (whole ∙ rw e (rest-of line (first .end) (deliverIn n) refl))
+    pub step-s : first .byte ≡ 115 → saidStep b ≡ deskIn n sends (wordsAt line (first .end + 1)) → saidStep b ≡ stepIn n (ended line)
+    unfolding isDesk isNumber isDecimal
+    step-s e is = is ∙ sym (whole ∙ rw e (rest-of line (first .end) (deskIn n sends) refl))
 
-  pub step-t : first .byte ≡ 116 → saidStep b ≡ aloneIn n act.Take (wordsAt line (first .end + 1)) → saidStep b ≡ stepIn n (ended line)
-  unfolding isDesk isNumber isDecimal
-  step-t e is = is ∙ takes-alone n (wordsAt line (first .end + 1)) ∙ sym (whole ∙ rw e (rest-of line (first .end) (actIn n takes) refl))
+    pub step-d : first .byte ≡ 100 → saidStep b ≡ deliverIn n (wordsAt line (first .end + 1)) → saidStep b ≡ stepIn n (ended line)
+    step-d e is = is ∙ sym (whole ∙ rw e (rest-of line (first .end) (deliverIn n) refl))
 
-  pub step-other : (first .byte ≡ 119 → ⊥) → (first .byte ≡ 114 → ⊥) → (first .byte ≡ 115 → ⊥) → (first .byte ≡ 100 → ⊥) → (first .byte ≡ 116 → ⊥) → saidStep b ≡ none → saidStep b ≡ stepIn n (ended line)
-  step-other w r s d t is =
-      is ∙ sym (whole ∙ rw (ne-eqb (first .byte) 119 w, ne-eqb (first .byte) 114 r, ne-eqb (first .byte) 115 s, ne-eqb (first .byte) 100 d, ne-eqb (first .byte) 116 t))
+    pub step-t : first .byte ≡ 116 → saidStep b ≡ deskIn n takes (wordsAt line (first .end + 1)) → saidStep b ≡ stepIn n (ended line)
+    unfolding isDesk isNumber isDecimal
+    step-t e is = is ∙ sym (whole ∙ rw e (rest-of line (first .end) (deskIn n takes) refl))
 
 pub ruleset steps-read = (step-w, step-r, step-s, step-d, step-t, step-other)

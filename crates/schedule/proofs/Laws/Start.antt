@@ -8,39 +8,35 @@ use mathlib.Core.Option.{Option, none, some}
 use Prim.Native.Nat.{ℕ, _+_}
 use lib.Dec.{leb, ltb}
 use lib.ListN.{length}
-use Rattle.text.specs.Parts.{space}
+use Rattle.text.specs.Separated.{space}
 use Rattle.text.specs.Decimal.{value}
 use Rattle.text.proofs.Laws.Parts.{parts-on}
 use Rattle.schedule.specs.declared.words.Number.{Number}
 use Rattle.schedule.specs.declared.words.Letter.{Letter}
 use Rattle.schedule.specs.Lines.{ended}
 use Rattle.schedule.specs.Words.{isNumber}
-use Rattle.schedule.specs.Start.{Start, isMode, modeIn, startOf, startIn}
+use Rattle.schedule.specs.Start.{Start, modeIn, startWith, startOf, startIn}
 use Rattle.schedule.specs.Parts.{wordAt, numberAt, letterOf, letterAt, modeOf}
-use Rattle.schedule.proofs.Laws.Words.{not-before, is-mode, mode-is}
+use Rattle.schedule.proofs.Laws.Words.{not-before, mode-is}
 
 -- three words and no more, by the tests whether a space ends each
 by-words : (n m mode word : List ℕ) (words : List (List ℕ)) (t₁ t₂ t₃ : Bool)
     → startOf (n ∷ cond t₁ (m ∷ cond t₂ (mode ∷ cond t₃ (word ∷ words) []) []) [])
-    ≡ cond
-    (t₁ && t₂ && not t₃ && (isNumber n && (isNumber m && isMode mode)))
-    (some (record { n = value n; m = value m; mode = modeIn mode }))
-    none
+    ≡ cond (t₁ && t₂ && not t₃ && (isNumber n && isNumber m)) (startWith (value n) (value m) (modeIn mode)) none
 by-words n m mode word words false t₂ t₃ = refl
 by-words n m mode word words true false t₃ = refl
 by-words n m mode word words true true true = refl
 by-words n m mode word words true true false = refl
 
 -- the same of numbers that are 0 where a word is none
-by-numbers : (a i₁ i₂ i₃ : Bool) (v₁ v₂ mode given : ℕ) → (i₃ ≡ true → given ≡ mode)
-    → _≡_ {A = Option Start}
-    (cond (a && (i₁ && (i₂ && i₃))) (some (record { n = v₁; m = v₂; mode = mode })) none)
-    (cond (a && (i₁ && i₂ && i₃)) (some (record { n = cond i₁ v₁ 0; m = cond i₂ v₂ 0; mode = given })) none)
-by-numbers false i₁ i₂ i₃ v₁ v₂ mode given is = refl
-by-numbers true false i₂ i₃ v₁ v₂ mode given is = refl
-by-numbers true true false i₃ v₁ v₂ mode given is = refl
-by-numbers true true true false v₁ v₂ mode given is = refl
-by-numbers true true true true v₁ v₂ mode given is = rw (is refl)
+by-numbers : (a i₁ i₂ i₃ : Bool) (v₁ v₂ mode : ℕ)
+    → cond (a && (i₁ && i₂)) (startWith v₁ v₂ (cond i₃ (some mode) none)) none
+    ≡ cond (a && (i₁ && i₂ && i₃)) (some (record { n = cond i₁ v₁ 0; m = cond i₂ v₂ 0; mode = mode })) none
+by-numbers false i₁ i₂ i₃ v₁ v₂ mode = refl
+by-numbers true false i₂ i₃ v₁ v₂ mode = refl
+by-numbers true true false i₃ v₁ v₂ mode = refl
+by-numbers true true true false v₁ v₂ mode = refl
+by-numbers true true true true v₁ v₂ mode = refl
 
 abbrev test : ℕ → Number → Number → Letter → Bool
 test len n m letter = ltb (n .end) len && ltb (m .end) len && leb len (letter .end) && (n .ok && m .ok && ltb (modeOf (letter .byte)) 4)
@@ -67,8 +63,9 @@ module _ (line : List ℕ) where
       ∙ ap (λ (l : List (List ℕ)). startOf (wordAt line 0 ∷ cond (ltb e₁ len) (wordAt line (e₁ + 1) ∷ cond (ltb e₂ len) l []) [])) (parts-on space line (e₂ + 1))
       ∙ ap (λ (l : List (List ℕ)). startOf (wordAt line 0 ∷ cond (ltb e₁ len) (wordAt line (e₁ + 1) ∷ cond (ltb e₂ len) (wordAt line (e₂ + 1) ∷ cond (ltb e₃ len) l []) []) [])) (parts-on space line (e₃ + 1))
       ∙ by-words (wordAt line 0) (wordAt line (e₁ + 1)) (wordAt line (e₂ + 1)) _ _ (ltb e₁ len) (ltb e₂ len) (ltb e₃ len)
-      ∙ by-numbers (ltb e₁ len && ltb e₂ len && not (ltb e₃ len)) (isNumber (wordAt line 0)) (isNumber (wordAt line (e₁ + 1))) (isMode (wordAt line (e₂ + 1))) (value (wordAt line 0)) (value (wordAt line (e₁ + 1))) (modeIn (wordAt line (e₂ + 1))) (modeOf (letterOf (wordAt line (e₂ + 1)))) (mode-is (wordAt line (e₂ + 1)))
-      ∙ rw (not-before e₃ len, ← (is-mode (wordAt line (e₂ + 1))))
+      ∙ ap (λ (o : Option ℕ). cond (ltb e₁ len && ltb e₂ len && not (ltb e₃ len) && (isNumber (wordAt line 0) && isNumber (wordAt line (e₁ + 1)))) (startWith (value (wordAt line 0)) (value (wordAt line (e₁ + 1))) o) none) (mode-is (wordAt line (e₂ + 1)))
+      ∙ by-numbers (ltb e₁ len && ltb e₂ len && not (ltb e₃ len)) (isNumber (wordAt line 0)) (isNumber (wordAt line (e₁ + 1))) (ltb (modeOf (letterOf (wordAt line (e₂ + 1)))) 4) (value (wordAt line 0)) (value (wordAt line (e₁ + 1))) (modeOf (letterOf (wordAt line (e₂ + 1))))
+      ∙ rw (not-before e₃ len)
 
   module _ (n m : Number) (letter : Letter) (mode : ℕ) (n-is : n ≡ numberAt line 0) (m-is : m ≡ numberAt line (n .end + 1)) (letter-is : letter ≡ letterAt line (m .end + 1)) (mode-of : mode ≡ modeOf (letter .byte)) where
     by-code : startIn (ended line) ≡ cond (ltb (n .end) (length line) && ltb (m .end) (length line) && leb (length line) (letter .end) && (n .ok && m .ok && ltb mode 4)) (some (record { n = n .value; m = m .value; mode = mode })) none

@@ -8,25 +8,26 @@
 --   past-is-0                                      what `byte_at` answers past the end
 --   letter-is                                      a word is a letter if its byte is
 --   mode-s, mode-c, mode-k, mode-default, no-mode  what `mode_of` answers; modes
---   is-mode, mode-is                               the mode of a letter is that of the word
+--   mode-is                                        the mode of a letter is that of the word
 -- Assumes nothing.
 use mathlib.Core.Path.{_≡_, refl, sym, ap, _∙_}
 use mathlib.Core.List.{List, [], _∷_}
 use mathlib.Core.Bool.{Bool, true, false, cond, not, _&&_, _||_, and-true, and-false}
+use mathlib.Core.Option.{Option, none, some}
 use Prim.Native.Nat.{ℕ, _+_, _-_, _<_, _≤_, min}
 use native.Mathlib.Omega.{arith}
 use lib.Dec.{eqb, leb, ltb}
 use lib.ListN.{length, getD, drop, List·getD-eq-default}
 use borrow.Author.Tests.{ltb-true, ltb-false, leb-true, leb-false, le-leb, lt-leb, ne-eqb}
 use Rattle.text.specs.declared.Decimal.{Decimal}
-use Rattle.text.specs.Parts.{firstPart, space}
+use Rattle.text.specs.Separated.{firstPart, space}
 use Rattle.text.specs.Decimal.{isDecimal, value, beyond, decimalAt}
 use Rattle.text.proofs.Laws.Decimal.{and-split}
 use Rattle.text.proofs.Laws.Parts.{empty, part-room, part-goes-on}
 use Rattle.schedule.specs.declared.words.Number.{Number}
 use Rattle.schedule.specs.declared.words.Letter.{Letter}
 use Rattle.schedule.specs.Words.{same, is, isNumber}
-use Rattle.schedule.specs.Start.{isMode, modeIn}
+use Rattle.schedule.specs.Start.{modeIn}
 use Rattle.schedule.specs.Parts.{wordAt, numberAt, letterOf, letterAt, modeOf}
 
 -- a place that is not before another is not below it
@@ -148,25 +149,18 @@ module _ (l : ℕ) where
 
 pub ruleset modes = (mode-s, mode-c, mode-k, mode-default, no-mode)
 
-mode-tests : (s c k d : Bool) → ltb (cond s 1 (cond c 2 (cond k 3 (cond d 0 4)))) 4 ≡ s || (c || (k || d))
+mode-tests : (s c k d : Bool)
+    → _≡_ {A = Option ℕ}
+    (cond s (some 1) (cond c (some 2) (cond k (some 3) (cond d (some 0) none))))
+    (cond (ltb (cond s 1 (cond c 2 (cond k 3 (cond d 0 4)))) 4) (some (cond s 1 (cond c 2 (cond k 3 (cond d 0 4))))) none)
 mode-tests true c k d = refl
 mode-tests false true k d = refl
 mode-tests false false true d = refl
 mode-tests false false false true = refl
 mode-tests false false false false = refl
 
-mode-if : (s c k d : Bool) → s || (c || (k || d)) ≡ true → _≡_ {A = ℕ} (cond s 1 (cond c 2 (cond k 3 (cond d 0 4)))) (cond s 1 (cond c 2 (cond k 3 0)))
-mode-if true c k d t = refl
-mode-if false true k d t = refl
-mode-if false false true d t = refl
-mode-if false false false true t = refl
-mode-if false false false false t = absurd (let z : _≡_ {A = ℕ} 0 1 = cc in omega arith)
-
-module _ (word : List ℕ) where
-  pub is-mode : ltb (modeOf (letterOf word)) 4 ≡ isMode word
-  unfolding modeOf isMode is
-  is-mode = rw (letter-is 115 refl word, letter-is 99 refl word, letter-is 107 refl word, letter-is 45 refl word) (mode-tests (eqb (letterOf word) 115) (eqb (letterOf word) 99) (eqb (letterOf word) 107) (eqb (letterOf word) 45))
-
-  pub mode-is : isMode word ≡ true → modeOf (letterOf word) ≡ modeIn word
-  unfolding modeOf isMode modeIn is
-  mode-is t = rw (letter-is 115 refl word, letter-is 99 refl word, letter-is 107 refl word) (mode-if (eqb (letterOf word) 115) (eqb (letterOf word) 99) (eqb (letterOf word) 107) (eqb (letterOf word) 45) (rw (letter-is 115 refl word, letter-is 99 refl word, letter-is 107 refl word, letter-is 45 refl word) at t))
+pub mode-is : (word : List ℕ) → modeIn word ≡ cond (ltb (modeOf (letterOf word)) 4) (some (modeOf (letterOf word))) none
+unfolding modeOf modeIn is
+mode-is word =
+    rw (letter-is 115 refl word, letter-is 99 refl word, letter-is 107 refl word, letter-is 45 refl word)
+    (mode-tests (eqb (letterOf word) 115) (eqb (letterOf word) 99) (eqb (letterOf word) 107) (eqb (letterOf word) 45))

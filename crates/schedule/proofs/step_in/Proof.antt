@@ -19,17 +19,14 @@ write-in-requires c κs = omega (arith, letter-room)
 read-in-requires : tie.Need-read-in-requires
 read-in-requires c κs = omega (arith, letter-room)
 
-act-in-requires : tie.Need-act-in-requires
-act-in-requires c κs = search needs
+desk-in-requires : tie.Need-desk-in-requires
+desk-in-requires c κs = search needs
 
 deliver-in-requires : tie.Need-deliver-in-requires
 deliver-in-requires c κs = omega (arith, letter-room)
 
-act-in-requires-2 : tie.Need-act-in-requires-2
-act-in-requires-2 c κs = search needs
-
-bad-requires : tie.Need-bad-requires
-bad-requires c κs = search needs
+desk-in-requires-2 : tie.Need-desk-in-requires-2
+desk-in-requires-2 c κs = search needs
 
 returns : tie.Need-returns
 returns c = search steps-read
@@ -57,10 +54,9 @@ step-in-spec =
     add-from
     write-in-requires
     read-in-requires
-    act-in-requires
+    desk-in-requires
     deliver-in-requires
-    act-in-requires-2
-    bad-requires
+    desk-in-requires-2
     returns
     returns-2
     returns-3

@@ -1,7 +1,7 @@
 -- Laws of what is read of a decimal number (specs/Decimal.antt).
 --   and-split                               both parts of `a && b`
---   decimal-is                              a word is decimal if it leads well and is of digits: `leading` and `digits`
---   no-lead, leads-by, leads-room           what `leads` returns, and what it requires
+--   decimal-is                              a word is decimal if it leads well and is of digits: `noLeadingZero` and `digits`
+--   no-lead, leads-by, leads-room           what `no_leading_zero` returns, and what it requires
 --   value-grows, capped-sooner              a number with more digits is no smaller, so that it may be capped at each of them
 --   DecimalSoFar, decimal-loop              the loop of `decimal_at`, and its laws as a set for `search`
 -- Assumes nothing.
@@ -14,8 +14,8 @@ use lib.Dec.{eqb, leb, eqb·suc-suc}
 use lib.ListN.{length, getD, take, drop, length-drop}
 use lib.Seq.{drop-cons, length-take-le}
 use borrow.Author.Tests.{leb-true, leb-false}
-use Rattle.text.specs.Parts.{firstPart}
-use Rattle.text.specs.Decimal.{isDigit, digits, leading, isDecimal, valueFrom, value, beyond, decimalAt}
+use Rattle.text.specs.Separated.{firstPart}
+use Rattle.text.specs.Decimal.{isDigit, digits, noLeadingZero, isDecimal, valueFrom, value, beyond, decimalAt}
 use Rattle.text.proofs.Laws.Parts.{GoesOn, empty, part-taken, part-room, part-goes-on}
 
 pub and-split : (a b : Bool) → a && b ≡ true → (a ≡ true) × (b ≡ true)
@@ -24,19 +24,19 @@ and-split false b e = absurd (false≢true e)
 
 -- ---- leading
 
-pub decimal-is : (word : List ℕ) → isDecimal word ≡ leading word && digits word
+pub decimal-is : (word : List ℕ) → isDecimal word ≡ noLeadingZero word && digits word
 unfolding isDecimal
-decimal-is word = and-comm (digits word) (leading word)
+decimal-is word = and-comm (digits word) (noLeadingZero word)
 
-lead-of : (b k : ℕ) (rest : List ℕ) → k ≤ length rest → not (eqb b 48) || eqb (suc k) 1 ≡ leading (take (suc k) (b ∷ rest))
+lead-of : (b k : ℕ) (rest : List ℕ) → k ≤ length rest → not (eqb b 48) || eqb (suc k) 1 ≡ noLeadingZero (take (suc k) (b ∷ rest))
 lead-of b k rest h =
     ap (λ (t : Bool). not (eqb b 48) || t) (eqb·suc-suc k 0 ∙ ap (λ (n : ℕ). eqb n 0) (sym (length-take-le k rest h)))
 
 module _ (s : List ℕ) (from end : ℕ) where
-  pub no-lead : end ≤ from → false ≡ leading (take (end - from) (drop from s))
+  pub no-lead : end ≤ from → false ≡ noLeadingZero (take (end - from) (drop from s))
   no-lead h = let none : end - from ≡ 0 = omega arith in rw none
 
-  pub leads-by : from < end → end - from ≤ length s - from → not (eqb (getD s from 0) 48) || eqb (end - from) 1 ≡ leading (take (end - from) (drop from s))
+  pub leads-by : from < end → end - from ≤ length s - from → not (eqb (getD s from 0) 48) || eqb (end - from) 1 ≡ noLeadingZero (take (end - from) (drop from s))
   leads-by h room =
       let count : end - from ≡ suc (end - from - 1) = omega arith in
       rw (count, drop-cons s from 0 (omega arith))
@@ -78,12 +78,12 @@ pub record DecimalSoFar (sep : ℕ) (s : List ℕ) (from end : ℕ) (ok : Bool) 
   pub value-is : min (value (firstPart sep (drop from s))) beyond ≡ min (valueFrom v (firstPart sep (drop i s))) beyond
 
 module _ (sep : ℕ) (s : List ℕ) (from end : ℕ) where
-  pub decimal-begun : end ≡ from + length (firstPart sep (drop from s)) → (ok : Bool) → ok ≡ leading (take (end - from) (drop from s)) → DecimalSoFar sep s from end ok 0 from
+  pub decimal-begun : end ≡ from + length (firstPart sep (drop from s)) → (ok : Bool) → ok ≡ noLeadingZero (take (end - from) (drop from s)) → DecimalSoFar sep s from end ok 0 from
   unfolding value
   decimal-begun e ok lead =
       let word = firstPart sep (drop from s) in
       let count : end - from ≡ length word = omega arith in
-      let is : ok ≡ leading word = lead ∙ ap (λ (n : ℕ). leading (take n (drop from s))) count ∙ ap leading (sym (part-taken sep (drop from s))) in
+      let is : ok ≡ noLeadingZero word = lead ∙ ap (λ (n : ℕ). noLeadingZero (take n (drop from s))) count ∙ ap noLeadingZero (sym (part-taken sep (drop from s))) in
       record {
         end-is = e;
         same-end = e;

@@ -1,4 +1,4 @@
--- Laws of `parts` and `firstPart` (specs/Parts.antt).
+-- Laws of `parts` and `firstPart` (specs/Separated.antt).
 --   empty                               what has no bytes is []
 --   part-here, part-on, part-past       the first part of what stands from a place on: at a separator, before another byte, past the end
 --   part-goes-on                        where it is not empty, its first byte is the text's
@@ -17,7 +17,7 @@ use lib.Dec.{eqb, ltb, leb·suc-suc}
 use lib.ListN.{length, getD, take, drop, length-drop, drop-of-length-le}
 use lib.Seq.{drop-cons, drop-drop}
 use borrow.Author.Tests.{lt-ltb, le-ltb, ltb-true, ltb-false, eq-eqb, ne-eqb}
-use Rattle.text.specs.Parts.{ontoFirst, parts, firstPart}
+use Rattle.text.specs.Separated.{ontoFirst, parts, firstPart}
 
 pub empty : (l : List ℕ) → length l ≡ 0 → l ≡ []
 empty [] e = refl

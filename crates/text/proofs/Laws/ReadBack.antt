@@ -11,7 +11,7 @@ use native.Mathlib.Nat.{add-zero, mul-le-mul-right, pow-le-pow-right, pow-succ'}
 use lib.Dec.{eqb, leb, ltb}
 use lib.ListN.{length}
 use borrow.Author.Tests.{le-leb, leb-true, leb-false, ltb-true, ltb-false, le-ltb, lt-ltb, ne-eqb, eqb-true, eqb-false}
-use Rattle.text.specs.Decimal.{isDigit, digits, leading, isDecimal, valueFrom, value, digitsOnto, decimal}
+use Rattle.text.specs.Decimal.{isDigit, digits, noLeadingZero, isDecimal, valueFrom, value, digitsOnto, decimal}
 use Rattle.text.specs.Promises.{PrintedReadsBack, ReadPrintsBack}
 use Rattle.text.proofs.Laws.Parts.{empty}
 use Rattle.text.proofs.Laws.Decimal.{and-split, decimal-is}
@@ -50,13 +50,13 @@ digits-back (suc most) k tail t =
     let one : digits ((48 + k % 10) ∷ tail) ≡ true = rw (last-digit k) t in
     either (ltb k 10) ((48 + k % 10) ∷ tail) (digitsOnto most (k / 10) ((48 + k % 10) ∷ tail)) one (digits-back most (k / 10) ((48 + k % 10) ∷ tail) one)
 
-leads-step : (k : ℕ) (tail more : List ℕ) → 1 ≤ k → (10 ≤ k → leading more ≡ true) → (t : Bool) → ltb k 10 ≡ t → leading (cond t ((48 + k % 10) ∷ tail) more) ≡ true
+leads-step : (k : ℕ) (tail more : List ℕ) → 1 ≤ k → (10 ≤ k → noLeadingZero more ≡ true) → (t : Bool) → ltb k 10 ≡ t → noLeadingZero (cond t ((48 + k % 10) ∷ tail) more) ≡ true
 leads-step k tail more some is true e =
     let small = ltb-true k 10 e in
     rw (ne-eqb (48 + k % 10) 48 (λ z. omega arith))
 leads-step k tail more some is false e = is (ltb-false k 10 e)
 
-leads-back : (most k : ℕ) (tail : List ℕ) → 1 ≤ k → k < 10 ^ most → leading (digitsOnto most k tail) ≡ true
+leads-back : (most k : ℕ) (tail : List ℕ) → 1 ≤ k → k < 10 ^ most → noLeadingZero (digitsOnto most k tail) ≡ true
 unfolding digitsOnto
 leads-back zero k tail some h = absurd (omega arith)
 leads-back (suc most) k tail some h =
@@ -64,7 +64,7 @@ leads-back (suc most) k tail some h =
     leads-step k tail (digitsOnto most (k / 10) ((48 + k % 10) ∷ tail)) some
     (λ (l : 10 ≤ k). leads-back most (k / 10) ((48 + k % 10) ∷ tail) (omega arith) less) (ltb k 10) refl
 
-leads-all : (k : ℕ) → k < 10 ^ 10 → leading (decimal k) ≡ true
+leads-all : (k : ℕ) → k < 10 ^ 10 → noLeadingZero (decimal k) ≡ true
 unfolding decimal digitsOnto
 leads-all zero h = refl
 leads-all (suc k) h = leads-back 10 (suc k) [] (omega arith) h

@@ -15,8 +15,8 @@ abbrev μ-loop : tie.MeasureT-loop
 part-end-requires : tie.Need-part-end-requires Inv-loop μ-loop
 part-end-requires c κs = search (decimal-loop, needs)
 
-leads-requires : tie.Need-leads-requires Inv-loop μ-loop
-leads-requires c κs = search (decimal-loop, needs)
+no-leading-zero-requires : tie.Need-no-leading-zero-requires Inv-loop μ-loop
+no-leading-zero-requires c κs = search (decimal-loop, needs)
 
 loop-holds : tie.Need-loop-holds Inv-loop μ-loop
 loop-holds c = search (decimal-loop, needs)
@@ -49,7 +49,7 @@ decimal-at-spec =
     Inv-loop
     μ-loop
     part-end-requires
-    leads-requires
+    no-leading-zero-requires
     loop-holds
     shared-slice-read-b
     digit-requires

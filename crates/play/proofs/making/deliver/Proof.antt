@@ -35,6 +35,9 @@ part-deliver-end c = search needs
 deliver-requires : tie.Need-deliver-requires
 deliver-requires c κs = search needs
 
+of-call-requires : tie.Need-of-call-requires
+of-call-requires c κs = search needs
+
 same-length : tie.Need-same-length
 same-length c = search needs
 
@@ -55,5 +58,6 @@ deliver-spec =
     part-deliver-start
     part-deliver-end
     deliver-requires
+    of-call-requires
     same-length
     returns-2)

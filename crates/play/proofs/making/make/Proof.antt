@@ -11,11 +11,17 @@ enum-known-act c = search needs
 write-requires : tie.Need-write-requires
 write-requires c κs = search needs
 
+of-call-requires : tie.Need-of-call-requires
+of-call-requires c κs = search needs
+
 enum-known-act-2 : tie.Need-enum-known-act-2
 enum-known-act-2 c = search needs
 
 read-requires : tie.Need-read-requires
 read-requires c κs = search needs
+
+of-call-requires-2 : tie.Need-of-call-requires-2
+of-call-requires-2 c κs = search needs
 
 enum-told : tie.Need-enum-told
 enum-told c = search needs
@@ -41,8 +47,8 @@ enum-told-2 c = search needs
 take-requires : tie.Need-take-requires
 take-requires c κs = search needs
 
-enum-told-3 : tie.Need-enum-told-3
-enum-told-3 c = search needs
+of-call-requires-3 : tie.Need-of-call-requires-3
+of-call-requires-3 c κs = search needs
 
 returns : tie.Need-returns
 returns c = search (makes, needs)
@@ -71,17 +77,16 @@ same-length-4 c = search needs
 returns-5 : tie.Need-returns-5
 returns-5 c = search (makes, needs)
 
-returns-6 : tie.Need-returns-6
-returns-6 c = search (makes, needs)
-
 pub make-spec : {M : Type 1} → statement M
 make-spec =
     tie.close
     (tie.spec
     enum-known-act
     write-requires
+    of-call-requires
     enum-known-act-2
     read-requires
+    of-call-requires-2
     enum-told
     cast-send
     send-requires
@@ -90,7 +95,7 @@ make-spec =
     deliver-requires
     enum-told-2
     take-requires
-    enum-told-3
+    of-call-requires-3
     returns
     returns-2
     same-length
@@ -99,5 +104,4 @@ make-spec =
     same-length-3
     returns-4
     same-length-4
-    returns-5
-    returns-6)
+    returns-5)

@@ -4,7 +4,7 @@ use borrow.Author.Needs.{needs}
 use Prim.Native.Nat.{_-_}
 use native.Mathlib.Omega.{arith}
 use lib.ListN.{length}
-use Rattle.play.proofs.Laws.Playing.{RunSoFar, turns, run-begun, run-ended, out-long, run-turned}
+use Rattle.play.proofs.Laws.Playing.{RunSoFar, turns, run-begun, run-ended, run-turned, run-bad, ran-long}
 use Rattle.play.proofs.running.run.Statement.{statement}
 use Rattle.play.proofs.running.run.Tie as tie
 
@@ -35,6 +35,23 @@ part-end-requires c κs = search needs
 step-at-requires : tie.Need-step-at-requires Inv-loop μ-loop
 step-at-requires c κs = omega (arith, c .part-end .ensures)
 
+enum-known-step : tie.Need-enum-known-step Inv-loop μ-loop
+enum-known-step c = search needs
+
+enum-told : tie.Need-enum-told Inv-loop μ-loop
+enum-told c = search needs
+
+put-line-requires : tie.Need-put-line-requires Inv-loop μ-loop
+put-line-requires c κs = search needs
+
+returns : tie.Need-returns Inv-loop μ-loop
+returns c =
+    run-bad _ _ _ _ _ _ _ _ _ _ _ _ _ _ _ (c .before .before .before .before .before .before .before .before .before .loop .inv) (omega arith) _ (c .before .before .before .before .before .before .before .part-end .ensures) (c .before .before .before .before .before .before .step-at .result) (c .before .before .before .before .before .before .step-at .ensures)
+    (c .before .before .before .before .enum-told .given .1) _ _ (c .before .before .put-line .ensures .0) (c .before .before .put-line .ensures .1)
+
+same-length : tie.Need-same-length Inv-loop μ-loop
+same-length c = ran-long (returns c)
+
 cast-p : tie.Need-cast-p Inv-loop μ-loop
 cast-p c = search needs
 
@@ -44,8 +61,8 @@ mul-d c = search (turns, needs)
 array-copy-out-d : tie.Need-array-copy-out-d Inv-loop μ-loop
 array-copy-out-d c = search (turns, needs)
 
-mul-from : tie.Need-mul-from Inv-loop μ-loop
-mul-from c = search (turns, needs)
+mul-base : tie.Need-mul-base Inv-loop μ-loop
+mul-base c = search (turns, needs)
 
 add-make : tie.Need-add-make Inv-loop μ-loop
 add-make c = search (turns, needs)
@@ -63,7 +80,7 @@ slice-aggregate-make : tie.Need-slice-aggregate-make Inv-loop μ-loop
 slice-aggregate-make c = search needs
 
 make-requires : tie.Need-make-requires Inv-loop μ-loop
-make-requires c κs = (search (turns, needs), (search (turns, needs), c .before .before .before .before .before .before .before .loop .inv .stands .kept .fits))
+make-requires c κs = (search (turns, needs), (search (turns, needs), c .before .before .before .before .before .before .before .before .before .loop .inv .stands .kept .fits))
 
 mul-ds : tie.Need-mul-ds Inv-loop μ-loop
 mul-ds c = search (turns, needs)
@@ -71,37 +88,28 @@ mul-ds c = search (turns, needs)
 array-set-from-ds : tie.Need-array-set-from-ds Inv-loop μ-loop
 array-set-from-ds c = search (turns, needs)
 
-slice-aggregate-said-of : tie.Need-slice-aggregate-said-of Inv-loop μ-loop
-slice-aggregate-said-of c = search needs
-
-said-of-requires : tie.Need-said-of-requires Inv-loop μ-loop
-said-of-requires c κs = search (turns, needs)
-
-put-line-requires : tie.Need-put-line-requires Inv-loop μ-loop
-put-line-requires c κs = search needs
+put-line-requires-2 : tie.Need-put-line-requires-2 Inv-loop μ-loop
+put-line-requires-2 c κs = search needs
 
 add-k : tie.Need-add-k Inv-loop μ-loop
 add-k c = omega (arith, c .before .before .before .before .before .before .before .before .before .before .before .before .before .before .before .before .before .loop .inv .few-lines)
 
-next-requires : tie.Need-next-requires Inv-loop μ-loop
-next-requires c κs = search (turns, needs)
+add-i : tie.Need-add-i Inv-loop μ-loop
+add-i c = search (turns, needs)
 
 loop-less : tie.Need-loop-less Inv-loop μ-loop
 loop-less c = search (turns, needs)
 
 loop-again : tie.Need-loop-again Inv-loop μ-loop
 loop-again c =
-    run-turned _ _ _ _ _ _ _ _ _ _ _ _ _ _ _ (c .before .before .before .before .before .before .before .before .before .before .before .before .before .before .before .before .before .before .loop .inv) (omega arith) _ (c .before .before .before .before .before .before .before .before .before .before .before .before .before .before .before .before .part-end .ensures) (c .before .before .before .before .before .before .before .before .before .before .before .before .before .before .before .step-at .result) (c .before .before .before .before .before .before .before .before .before .before .before .before .before .before .before .step-at .ensures .0) (c .before .before .before .before .before .before .before .before .before .before .before .before .before .before .before .step-at .ensures .1)
-    (c .before .before .before .before .before .before .before .before .before .before .make .result) _ _ (c .before .before .before .before .before .before .before .before .before .before .make .ensures)
-    (c .before .before .before .before .before .said-of .result) (c .before .before .before .before .before .said-of .ensures)
-    _ _ (c .before .before .before .put-line .ensures .0) (c .before .before .before .put-line .ensures .1)
-    _ (c .next .ensures)
+    run-turned _ _ _ _ _ _ _ _ _ _ _ _ _ _ _ (c .before .before .before .before .before .before .before .before .before .before .before .before .before .before .before .before .before .loop .inv) (omega arith) _ (c .before .before .before .before .before .before .before .before .before .before .before .before .before .before .before .part-end .ensures) (c .before .before .before .before .before .before .before .before .before .before .before .before .before .before .step-at .result) (c .before .before .before .before .before .before .before .before .before .before .before .before .before .before .step-at .ensures)
+    _ _ (c .before .before .before .before .before .before .before .before .before .before .before .before .step .given .1) (c .before .before .before .before .before .before .before .make .result) _ _ (c .before .before .before .before .before .before .before .make .ensures) _ _ (c .before .before .put-line2 .ensures .0) (c .before .before .put-line2 .ensures .1)
 
-same-length : tie.Need-same-length Inv-loop μ-loop
-same-length c = out-long _ _ _ _ _ _ _ _ _ _ _ _ _ _ _ (c .before .loop .inv)
+returns-2 : tie.Need-returns-2 Inv-loop μ-loop
+returns-2 c = run-ended _ _ _ _ _ _ _ _ _ _ _ _ _ _ _ (c .before .loop .inv) (omega arith)
 
-returns : tie.Need-returns Inv-loop μ-loop
-returns c = run-ended _ _ _ _ _ _ _ _ _ _ _ _ _ _ _ (c .before .loop .inv) (omega arith)
+same-length-2 : tie.Need-same-length-2 Inv-loop μ-loop
+same-length-2 c = ran-long (returns-2 c)
 
 pub run-spec : {M : Type 1} → statement M
 run-spec =
@@ -116,10 +124,15 @@ run-spec =
     loop-holds
     part-end-requires
     step-at-requires
+    enum-known-step
+    enum-told
+    put-line-requires
+    same-length
+    returns
     cast-p
     mul-d
     array-copy-out-d
-    mul-from
+    mul-base
     add-make
     sub-make
     part-trays-start
@@ -128,12 +141,10 @@ run-spec =
     make-requires
     mul-ds
     array-set-from-ds
-    slice-aggregate-said-of
-    said-of-requires
-    put-line-requires
+    put-line-requires-2
     add-k
-    next-requires
+    add-i
     loop-less
     loop-again
-    same-length
-    returns)
+    same-length-2
+    returns-2)

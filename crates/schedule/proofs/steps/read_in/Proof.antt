@@ -19,13 +19,10 @@ number-at-requires-2 c κs = search needs
 returns : tie.Need-returns
 returns c = search reads-read
 
-bad-requires : tie.Need-bad-requires
-bad-requires c κs = search needs
-
 returns-2 : tie.Need-returns-2
 returns-2 c = search reads-read
 
 pub read-in-spec : {M : Type 1} → statement M
 read-in-spec =
     tie.close
-    (tie.spec number-at-requires add-number-at number-at-requires-2 returns bad-requires returns-2)
+    (tie.spec number-at-requires add-number-at number-at-requires-2 returns returns-2)

@@ -25,9 +25,6 @@ content-at-requires c κs = omega (arith, number-room)
 returns : tie.Need-returns
 returns c = search writes-read
 
-bad-requires : tie.Need-bad-requires
-bad-requires c κs = search needs
-
 returns-2 : tie.Need-returns-2
 returns-2 c = search writes-read
 
@@ -41,5 +38,4 @@ write-in-spec =
     add-content-at
     content-at-requires
     returns
-    bad-requires
     returns-2)

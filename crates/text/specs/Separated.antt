@@ -12,6 +12,9 @@ lineFeed = 10
 abbrev pub space : ℕ
 space = 32
 
+abbrev pub minus : ℕ
+minus = 45
+
 -- a byte in front of the first part
 abbrev pub ontoFirst : ℕ → List (List ℕ) → List (List ℕ)
 ontoFirst b [] = (b ∷ []) ∷ []

@@ -1,12 +1,12 @@
--- `put_said` meets its contract: each case gives the case of the definition (the laws `saids-laid`).
+-- `put_step_answer` meets its contract: each case gives the case of the definition (the laws `steps-laid`).
 -- Assumes nothing.
 use borrow.Author.Needs.{needs}
-use Rattle.printing.proofs.Laws.Words.{saids-laid}
-use Rattle.printing.proofs.answers.put_said.Statement.{statement}
-use Rattle.printing.proofs.answers.put_said.Tie as tie
+use Rattle.printing.proofs.Laws.Words.{steps-laid}
+use Rattle.printing.proofs.answers.put_step_answer.Statement.{statement}
+use Rattle.printing.proofs.answers.put_step_answer.Tie as tie
 
-enum-known-said : tie.Need-enum-known-said
-enum-known-said c = search needs
+enum-known-answer : tie.Need-enum-known-answer
+enum-known-answer c = search needs
 
 put-answer-requires : tie.Need-put-answer-requires
 put-answer-requires c κs = search needs
@@ -33,25 +33,25 @@ same-length : tie.Need-same-length
 same-length c = search needs
 
 returns : tie.Need-returns
-returns c = search (saids-laid, needs)
+returns c = search (steps-laid, needs)
 
 same-length-2 : tie.Need-same-length-2
 same-length-2 c = search needs
 
 returns-2 : tie.Need-returns-2
-returns-2 c = search (saids-laid, needs)
+returns-2 c = search (steps-laid, needs)
 
 same-length-3 : tie.Need-same-length-3
 same-length-3 c = search needs
 
 returns-3 : tie.Need-returns-3
-returns-3 c = search (saids-laid, needs)
+returns-3 c = search (steps-laid, needs)
 
-pub put-said-spec : {M : Type 1} → statement M
-put-said-spec =
+pub put-step-answer-spec : {M : Type 1} → statement M
+put-step-answer-spec =
     tie.close
     (tie.spec
-    enum-known-said
+    enum-known-answer
     put-answer-requires
     enum-told
     slice-aggregate-put-text

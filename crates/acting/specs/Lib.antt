@@ -1,2 +1,0 @@
-pub mod Step
-pub mod Said
