@@ -124,9 +124,7 @@ impl Desk {
         let waits = steps::must_wait(number == 0, h, &self.pkind, i);
         let c = cells::content_at(&self.kind, &self.day, i);
         let answer = steps::read_answer(waits, c);
-        let mut next = h;
-        next.wait = steps::wait_at(waits, h.wait, cell);
-        self.head = next;
+        self.head.wait = steps::wait_at(waits, h.wait, cell);
         Outcome {
             answer: steps::given_if(number, answer),
             desk: self,
@@ -134,7 +132,9 @@ impl Desk {
     }
 
     // "Writes one sheet with every pending entry, an empty sheet if there are none, empties the
-    // pending set, adds 1 to the turn number." The buffer may have any length. Refusals 5, 9, 10, 11.
+    // pending set, adds 1 to the turn number. Bytes of the lent buffer past the sheet stay. The answer
+    // gives the sheet's turn number and its number of entries." The buffer may have any length.
+    // Refusals 5, 9, 10, 11.
     pub fn send(mut self, buf: &mut [u8]) -> Outcome
         ensures { λ r. ⌜ outcome r (now (buf .exit)) ≡ sendOf self (now (buf .entry)) ⌝ }
     {
@@ -201,8 +201,9 @@ impl Desk {
     // "Takes the sheet of the desk whose turn it is. Each entry goes to the shelf in causal mode
     // always, in the other modes only if that cell is not pending. Pending entries never change. The
     // place becomes zeros, the turn number goes up by 1. If the turn is now the desk's own and a read
-    // waits, the answer carries that cell's content and the read is over." The tray may have any
-    // length. Refusals 5, 12, 19, 10, 20, 21.
+    // waits, the answer carries that cell's content and the read is over. The answer always gives the
+    // sheet's turn number, its number of entries and how many of them went to the shelf." The tray may
+    // have any length. Refusals 5, 12, 19, 10, 20, 21.
     pub fn take(mut self, tray: &mut [u8]) -> Outcome
         ensures { λ r. ⌜ outcome r (now (tray .exit)) ≡ takeOf self (now (tray .entry)) ⌝ }
     {
@@ -223,14 +224,14 @@ impl Desk {
                 desk: self,
             };
         }
+        // Two arrays of a record cannot be lent at once: the shelf is copied, and put back.
         let mut kind = self.kind;
         let mut day = self.day;
-        let pkind = self.pkind;
-        let went = steps::apply_from(h, &mut kind, &mut day, &pkind, tray, q, looked.entries);
+        let went = steps::apply_from(h, &mut kind, &mut day, &self.pkind, tray, q, looked.entries);
         let over = steps::read_ends(h);
         let c = cells::content_at(&kind, &day, steps::wait_cell(h));
         tray::clear(tray, q);
-        self.head = steps::next_head(h, answer::first(over, 0, h.wait));
+        self.head = steps::next_head(h, steps::wait_after(over, h.wait));
         self.kind = kind;
         self.day = day;
         Outcome {

@@ -23,6 +23,17 @@ pub(crate) fn given_if(number: u8, a: Answer) -> Answer
     }
 }
 
+// "Mode 0 means the default: causal."
+fn mode_for(mode: u32) -> u8
+    requires { ⌜ mode < 256 ⌝ }
+    ensures { λ r. ⌜ r ≡ modeFor mode ⌝ }
+{
+    if mode == 0 {
+        return 2;
+    }
+    mode as u8
+}
+
 // The head of a desk that was opened, or of zeros where open refuses.
 pub(crate) fn opened_head(number: u8, n: u32, m: u32, own: u32, mode: u32) -> Head
     requires { ⌜ (number ≡ 0 → (n < 256) × ((m < 256) × ((own < 256) × (mode < 256)))) ⌝ }
@@ -33,7 +44,7 @@ pub(crate) fn opened_head(number: u8, n: u32, m: u32, own: u32, mode: u32) -> He
             n: n as u8,
             m: m as u8,
             own: own as u8,
-            mode: answer::first(mode == 0, 2, mode as u8),
+            mode: mode_for(mode),
             turn: 0,
             wait: 0,
         };
@@ -105,6 +116,16 @@ pub(crate) fn next_head(h: Head, wait: u8) -> Head
         turn: h.turn + 1,
         wait: wait,
     }
+}
+
+// The waiting read after a take: none where it is over.
+pub(crate) fn wait_after(over: bool, wait: u8) -> u8
+    ensures { λ r. ⌜ r ≡ cond over 0 wait ⌝ }
+{
+    if over {
+        return 0;
+    }
+    wait
 }
 
 // "If the turn is now the desk's own and a read waits".
