@@ -1,12 +1,12 @@
 // The parts of a step that a call is made of.
-ghost use mathlib.Core.Bool.{_&&_};
+ghost use mathlib.Core.Bool.{cond, _&&_};
 ghost use mathlib.Core.Path.{_≡_};
 ghost use Prim.Native.Nat.{_+_, _<_, _≤_};
 ghost use lib.ListN.{length, drop};
 ghost use Rattle.sound.specs.Head.{causal, waitCell};
 ghost use Rattle.tray.specs.Tray.{start};
 ghost use Rattle.applying.specs.Applying.{entriesIn, Applies};
-ghost use Rattle.desk.specs.Calls.{nextHead, readEnds};
+ghost use Rattle.desk.specs.Calls.{modeFor, nextHead, readEnds};
 ghost use Rattle.desk.specs.Parts.{given, openedHead, waitsFor, waitAt, readAnswer, heldIf, takenAnswer};
 use crate::Answer;
 use content::Content;

@@ -199,3 +199,5 @@ module _ (d : Desk) (tray : List ℕ) where
                 lent = trays i;
               })
               ∙ call-carried-out (takeRules d tray) take-numbered d tray value after (clearedIn tray (turnDesk (d .head))) (rest-is ∙ found)
+
+pub ruleset takings = (take-refused, take-turn, take-desk, take-room, take-not-there, took)

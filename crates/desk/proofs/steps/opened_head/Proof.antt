@@ -15,15 +15,12 @@ cast-t8 c = record { fits = c .before .pre (c .if1 .taken) .1 .0 }
 cast-t9 : tie.Need-cast-t9
 cast-t9 c = record { fits = c .before .pre (c .if1 .taken) .1 .1 .0 }
 
-cast-first : tie.Need-cast-first
-cast-first c = record { fits = c .before .pre (c .if1 .taken) .1 .1 .1 }
-
-first-requires : tie.Need-first-requires
-first-requires c κs = search needs
+mode-for-requires : tie.Need-mode-for-requires
+mode-for-requires c κs = c .before .pre (c .if1 .taken) .1 .1 .1
 
 returns : tie.Need-returns
 unfolding openedHead
-returns c = rw (eq-eqb _ _ (c .before .if1 .taken), c .first .ensures)
+returns c = rw (eq-eqb _ _ (c .before .if1 .taken), c .mode-for .ensures)
 
 returns-2 : tie.Need-returns-2
 unfolding openedHead
@@ -31,4 +28,4 @@ returns-2 c = rw (ne-eqb _ _ (c .if1 .left))
 
 pub opened-head-spec : {M : Type 1} → statement M
 opened-head-spec =
-    tie.close (tie.spec cast-t7 cast-t8 cast-t9 cast-first first-requires returns returns-2)
+    tie.close (tie.spec cast-t7 cast-t8 cast-t9 mode-for-requires returns returns-2)
