@@ -21,7 +21,7 @@ use lib.Seq.{getD-set-same, getD-set-other}
 use borrow.Author.Tests.{lt-ltb, le-ltb, eqb-true, eqb-false}
 use Rattle.content.specs.declared.Content.{Content}
 use Rattle.content.specs.Content.{contentOf}
-use Rattle.cells.specs.Cells.{placeAt, kindAt, dayAt, contentAt, filled, putIf, each, some, count}
+use Rattle.cells.specs.Cells.{placeAt, kindAt, dayAt, contentAt, filled, putIf, each, anywhere, count}
 
 -- ---- one place, as the code reads and puts it
 
@@ -114,8 +114,8 @@ unfolding each
 each-both zero p q = refl
 each-both (suc n) p q = middle (each n p) (p n) (each n q) (q n) ∙ rw (each-both n p q)
 
-pub some-if : (n : ℕ) (p : ℕ → Bool) (i : ℕ) → i < n → p i ≡ true → some n p ≡ true
-unfolding some
+pub some-if : (n : ℕ) (p : ℕ → Bool) (i : ℕ) → i < n → p i ≡ true → anywhere n p ≡ true
+unfolding anywhere
 some-if zero p i h e = absurd (not-suc-le-zero h)
 some-if (suc n) p i h e = by-last (some-if n p i) (eqb i n) refl
   where
@@ -123,8 +123,8 @@ some-if (suc n) p i h e = by-last (some-if n p i) (eqb i n) refl
     or-true true = refl
     or-true false = refl
 
-    by-last : (i < n → p i ≡ true → some n p ≡ true) → (t : Bool) → eqb i n ≡ t → (some n p || p n) ≡ true
-    by-last rest true q = rw (sym (ap p (eqb-true i n q)) ∙ e) (or-true (some n p))
+    by-last : (i < n → p i ≡ true → anywhere n p ≡ true) → (t : Bool) → eqb i n ≡ t → (anywhere n p || p n) ≡ true
+    by-last rest true q = rw (sym (ap p (eqb-true i n q)) ∙ e) (or-true (anywhere n p))
     by-last rest false q = let other = eqb-false i n q in rw (rest (omega arith) e)
 
 -- where a test holds of some, there is a place of which it holds
@@ -133,8 +133,8 @@ pub record Somewhere (n : ℕ) (p : ℕ → Bool) : Type 0 where
   pub below : place < n
   pub holds : p place ≡ true
 
-pub some-at : (n : ℕ) (p : ℕ → Bool) → some n p ≡ true → Somewhere n p
-unfolding some
+pub some-at : (n : ℕ) (p : ℕ → Bool) → anywhere n p ≡ true → Somewhere n p
+unfolding anywhere
 some-at zero p e = absurd (false≢true e)
 some-at (suc n) p e = by-last (some-at n p) (p n) refl
   where
@@ -142,10 +142,10 @@ some-at (suc n) p e = by-last (some-at n p) (p n) refl
     or-left true q = refl
     or-left false q = q
 
-    by-last : (some n p ≡ true → Somewhere n p) → (t : Bool) → p n ≡ t → Somewhere (suc n) p
+    by-last : (anywhere n p ≡ true → Somewhere n p) → (t : Bool) → p n ≡ t → Somewhere (suc n) p
     by-last rest true q = record { place = n; below = omega arith; holds = q }
     by-last rest false q =
-        let s = rest (or-left (some n p) (rw q at e)) in
+        let s = rest (or-left (anywhere n p) (rw q at e)) in
         record { place = s .place; below = omega (arith, s .below); holds = s .holds }
 
 -- ---- the loops
@@ -153,18 +153,18 @@ some-at (suc n) p e = by-last (some-at n p) (p n) refl
 module _ (kinds : List ℕ) where
   pub record AnySoFar (any : Bool) (i : ℕ) : Type 0 where
     pub within : i ≤ 64
-    pub found : any ≡ some i (filled kinds)
+    pub found : any ≡ anywhere i (filled kinds)
 
   pub any-begun : AnySoFar false 0
-  unfolding some
+  unfolding anywhere
   any-begun = record { within = omega arith; found = refl }
 
   pub any-turned : {any : Bool} {i kind : ℕ} → AnySoFar any i → i < 64 → kind ≡ kindAt kinds i → AnySoFar (any || not (eqb kind 0)) (i + 1)
-  unfolding some
+  unfolding anywhere
   any-turned so h e = record { within = omega arith; found = rw (add-one, e, so .found) }
 
-  pub any-ended : {any : Bool} {i : ℕ} → AnySoFar any i → 64 ≤ i → any ≡ some 64 (filled kinds)
-  any-ended {i = i} so h = let all : i ≡ 64 = omega (arith, so .within) in so .found ∙ ap (λ (j : ℕ). some j (filled kinds)) all
+  pub any-ended : {any : Bool} {i : ℕ} → AnySoFar any i → 64 ≤ i → any ≡ anywhere 64 (filled kinds)
+  any-ended {i = i} so h = let all : i ≡ 64 = omega (arith, so .within) in so .found ∙ ap (λ (j : ℕ). anywhere j (filled kinds)) all
 
   pub record CountSoFar (n i : ℕ) : Type 0 where
     pub within : i ≤ 64

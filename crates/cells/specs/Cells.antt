@@ -37,9 +37,9 @@ unfoldable pub each : ℕ → (ℕ → Bool) → Bool
 each zero p = true
 each (suc n) p = each n p && p n
 
-unfoldable pub some : ℕ → (ℕ → Bool) → Bool
-some zero p = false
-some (suc n) p = some n p || p n
+unfoldable pub anywhere : ℕ → (ℕ → Bool) → Bool
+anywhere zero p = false
+anywhere (suc n) p = anywhere n p || p n
 
 unfoldable pub count : ℕ → (ℕ → Bool) → ℕ
 count zero p = 0

@@ -2,7 +2,7 @@
 // arrays are lent, so that no call copies them. specs/Cells.antt says what a place holds.
 ghost use mathlib.Core.Bool.{cond};
 ghost use mathlib.Core.Path.{_≡_};
-ghost use Rattle.cells.specs.Cells.{kindAt, dayAt, contentAt, filled, some, count, putIf};
+ghost use Rattle.cells.specs.Cells.{kindAt, dayAt, contentAt, filled, anywhere, count, putIf};
 use content::Content;
 
 // The kind in place i; past the places there is none, and 0 says so.
@@ -57,7 +57,7 @@ pub fn put_day(days: &mut [i32; 64], on: bool, i: usize, day: i32)
 
 // Whether any of the places is filled.
 pub fn any_filled(kinds: &[u8; 64]) -> bool
-    ensures { λ r. ⌜ r ≡ some 64 (filled (now (kinds .entry))) ⌝ }
+    ensures { λ r. ⌜ r ≡ anywhere 64 (filled (now (kinds .entry))) ⌝ }
 {
     let mut any = false;
     let mut i: usize = 0;

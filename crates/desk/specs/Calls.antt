@@ -15,8 +15,7 @@ use Rattle.content.specs.Content.{kindOf, dayOf}
 use Rattle.layout.specs.declared.Entry.{Entry}
 use Rattle.layout.specs.Layout.{entriesOf, trailerIn, numbersOf}
 use Rattle.sheet.specs.Good.{good}
-use Rattle.cells.specs.Cells.{contentAt, blank, filled, putIf}
-use Rattle.cells.specs.Cells as cells
+use Rattle.cells.specs.Cells.{contentAt, blank, filled, putIf, anywhere}
 use Rattle.sound.specs.declared.Head.{Head}
 use Rattle.sound.specs.Head.{sequential, causal, turnDesk, ownTurn, readWaits, waitCell}
 use Rattle.sound.specs.Sound.{soundOf}
@@ -90,7 +89,7 @@ readRules d cell = rules.readRules (sound d) (d .head) cell
 
 -- "It waits exactly if the mode is sequential, something is pending, this cell is not, and the turn is elsewhere."
 unfoldable pub mustWait : Desk → ℕ → Bool
-mustWait d cell = sequential (d .head) && cells.some 64 (filled (d .pkind)) && blank (d .pkind) cell && not (ownTurn (d .head))
+mustWait d cell = sequential (d .head) && anywhere 64 (filled (d .pkind)) && blank (d .pkind) cell && not (ownTurn (d .head))
 
 -- the record with a read of this cell that waits
 abbrev pub waitingDesk : Desk → ℕ → Desk

@@ -7,7 +7,7 @@ use lib.Dec.{eqb, ltb}
 use Rattle.sound.specs.declared.Head.{Head}
 use Rattle.sound.specs.Head.{sequential, ownTurn}
 use Rattle.content.specs.declared.Content.{Content}
-use Rattle.cells.specs.Cells.{blank, filled, some}
+use Rattle.cells.specs.Cells.{blank, filled, anywhere}
 use Rattle.tray.specs.Tray.{heldIn}
 use Rattle.desk.specs.Calls.{modeFor, freshHead}
 use Rattle.desk.specs.declared.Answer.{Answer}
@@ -22,7 +22,7 @@ openedHead number n m own mode = cond (eqb number 0) (freshHead n m own (modeFor
 
 -- `mustWait`, of a head and pending kinds
 unfoldable pub waitsFor : Head → List ℕ → ℕ → Bool
-waitsFor h pkind cell = sequential h && some 64 (filled pkind) && blank pkind cell && not (ownTurn h)
+waitsFor h pkind cell = sequential h && anywhere 64 (filled pkind) && blank pkind cell && not (ownTurn h)
 
 unfoldable pub waitAt : Bool → ℕ → ℕ → ℕ
 waitAt waits wait cell = cond (waits && ltb cell 64) (cell + 1) wait

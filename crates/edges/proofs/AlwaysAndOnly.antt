@@ -11,8 +11,7 @@ use Rattle.answer.specs.Answer.{answered}
 use Rattle.answer.proofs.Laws.{answered-only-if}
 use Rattle.layout.specs.Layout.{trailerIn}
 use Rattle.sheet.proofs.Laws.Good.{good-trailer-is-fair}
-use Rattle.cells.specs.Cells.{blank, filled}
-use Rattle.cells.specs.Cells as cells
+use Rattle.cells.specs.Cells.{blank, filled, anywhere}
 use Rattle.sound.specs.Head.{sequential, ownTurn}
 use Rattle.desk.specs.declared.Desk.{Desk}
 use Rattle.desk.specs.Answers.{waits, held}
@@ -24,7 +23,7 @@ use Rattle.edges.proofs.WrongDesks.{read-as-said, waits-is-no-content}
 -- on its own turn a desk's read is answered at once
 own-turn-answers : (d : Desk) (i : ℕ) → ownTurn (d .head) ≡ true → mustWait d i ≡ false
 unfolding mustWait
-own-turn-answers d i own = rw own (ends-shut (sequential (d .head) && cells.some 64 (filled (d .pkind)) && blank (d .pkind) i))
+own-turn-answers d i own = rw own (ends-shut (sequential (d .head) && anywhere 64 (filled (d .pkind)) && blank (d .pkind) i))
   where
     ends-shut : (a : Bool) → a && false ≡ false
     ends-shut true = refl

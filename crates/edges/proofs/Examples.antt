@@ -5,7 +5,7 @@ use Rattle.calendar.specs.Spans.{before}
 use Rattle.calendar.specs.Calendar.{lengthIn, yearLength, isDate, daysTo, numberOf, dayNumberOf}
 use Rattle.laying.specs.Laying.{laidOver}
 use Rattle.sheet.specs.Good.{good}
-use Rattle.cells.specs.Cells.{placeAt, each, some, putIf}
+use Rattle.cells.specs.Cells.{placeAt, each, anywhere, putIf}
 use Rattle.sound.specs.Sound.{soundOf}
 use Rattle.tray.specs.Tray.{holdsGood, heldIn, clearedIn}
 use Rattle.pending.specs.Pending.{pendingBelow, sheetOf}
@@ -16,6 +16,6 @@ use Rattle.edges.specs.Examples.{opened, wrote, sends, delivers, takes, 
 pub examples-hold : ExamplesHold
 unfolding cases opened wrote sends delivers takes sentBy cellAfter takesNine ofThree deliveredAt4
     openOf writeOf mustWait readOf sendOf deliverOf takeOf
-    soundOf placeAt each some putIf sheetOf pendingBelow laid wentOf holdsGood heldIn clearedIn laidOver good
+    soundOf placeAt each anywhere putIf sheetOf pendingBelow laid wentOf holdsGood heldIn clearedIn laidOver good
     before lengthIn yearLength isDate daysTo numberOf dayNumberOf
 examples-hold = refl

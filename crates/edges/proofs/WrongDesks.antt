@@ -19,8 +19,7 @@ use Rattle.layout.specs.declared.Entry.{Entry}
 use Rattle.layout.specs.Layout.{sheetBytes, trailerFor}
 use Rattle.laying.specs.Laying.{laidOver}
 use Rattle.sheet.specs.Good.{good}
-use Rattle.cells.specs.Cells.{placeAt, kindAt, contentAt, blank, filled, each, putIf}
-use Rattle.cells.specs.Cells as cells
+use Rattle.cells.specs.Cells.{placeAt, kindAt, contentAt, blank, filled, each, putIf, anywhere}
 use Rattle.sound.specs.Head.{sequential, causal, ownTurn, readWaits, waitCell}
 use Rattle.sound.specs.Sound.{soundOf}
 use Rattle.tray.specs.Tray.{holdsGood, heldIn, clearedIn}
@@ -84,7 +83,7 @@ runs : Runs
 unfolding alone withDay0 asking waiting nine tray sheet0 sheet1 bothHeld firstTake secondTake oneOfTwo
     desks.opened wrote sends delivers takes takesNine
     openOf writeOf mustWait readOf sendOf deliverOf takeOf
-    soundOf placeAt each cells.some putIf sheetOf pendingBelow laid wentOf holdsGood heldIn clearedIn laidOver good
+    soundOf placeAt each anywhere putIf sheetOf pendingBelow laid wentOf holdsGood heldIn clearedIn laidOver good
 runs =
     record {
       opens = refl;
@@ -194,11 +193,11 @@ wrong-desks-shut-out =
 -- ---- the five slips
 
 -- an empty sheet, where nothing is pending
-none-pending : (pkind : List ℕ) (pday : List ℤ) (n : ℕ) → cells.some n (filled pkind) ≡ false → pendingBelow pkind pday n ≡ []
-unfolding cells.some pendingBelow
+none-pending : (pkind : List ℕ) (pday : List ℤ) (n : ℕ) → anywhere n (filled pkind) ≡ false → pendingBelow pkind pday n ≡ []
+unfolding anywhere pendingBelow
 none-pending pkind pday zero e = refl
 none-pending pkind pday (suc n) e =
-    let both = neither (cells.some n (filled pkind)) (filled pkind n) e in
+    let both = neither (anywhere n (filled pkind)) (filled pkind n) e in
     rw (none-pending pkind pday n (both .0), both .1)
   where
     neither : (a b : Bool) → a || b ≡ false → (a ≡ false) × (b ≡ false)
@@ -206,7 +205,7 @@ none-pending pkind pday (suc n) e =
     neither false b q = (refl, q)
 
 module _ (d : Desk) (buf : List ℕ) (s : sound d ≡ true) (own : ownTurn (d .head) ≡ true) (more : d .head .turn < lastTurn) (room : 12 ≤ length buf)
-    (nothing : cells.some 64 (filled (d .pkind)) ≡ false) where
+    (nothing : anywhere 64 (filled (d .pkind)) ≡ false) where
   no-entries : pendingEntries (d .pkind) (d .pday) ≡ []
   no-entries = none-pending (d .pkind) (d .pday) 64 nothing
 
@@ -253,7 +252,7 @@ module _ (d : Desk) (i : ℕ) where
 
   pending-answers : filled (d .pkind) i ≡ true → mustWait d i ≡ false
   unfolding mustWait
-  pending-answers f = rw (not-true (blank (d .pkind) i) f) (shut (sequential (d .head) && cells.some 64 (filled (d .pkind))) (not (ownTurn (d .head))))
+  pending-answers f = rw (not-true (blank (d .pkind) i) f) (shut (sequential (d .head) && anywhere 64 (filled (d .pkind))) (not (ownTurn (d .head))))
     where
       shut : (a b : Bool) → a && false && b ≡ false
       shut true b = refl

@@ -15,8 +15,7 @@ use Rattle.answer.specs.Answer.{refused, answered}
 use Rattle.content.specs.declared.Content.{Content}
 use Rattle.content.specs.declared.Content.the-variants.{Blank, Open, Day}
 use Rattle.layout.specs.Layout.{sheetBytes, trailerFor, trailerIn}
-use Rattle.cells.specs.Cells.{kindAt, contentAt, filled}
-use Rattle.cells.specs.Cells as cells
+use Rattle.cells.specs.Cells.{kindAt, contentAt, filled, anywhere}
 use Rattle.sound.specs.Head.{causal, turnDesk, ownTurn, readWaits, waitCell}
 use Rattle.tray.specs.Tray.{sheetAt}
 use Rattle.pending.specs.Pending.{numbersFor}
@@ -147,7 +146,7 @@ pub record SlipsRuledOut : Type 0 where
   -- "sending no sheet when nothing is pending, so the turn stops"
   pub empty-sheet-sent :
       (d : Desk) (buf : List ℕ) → sound d ≡ true → ownTurn (d .head) ≡ true → d .head .turn < lastTurn → 12 ≤ length buf
-      → cells.some 64 (filled (d .pkind)) ≡ false → EmptySheetSent d buf
+      → anywhere 64 (filled (d .pkind)) ≡ false → EmptySheetSent d buf
   -- "making a strict read wait although its own cell is pending"
   pub pending-cell-answers : (d : Desk) (i : ℕ) → filled (d .pkind) i ≡ true → readOf d i .answer ≡ answered waits → ⊥
   -- "treating kind 1 as a day of zero"

@@ -10,7 +10,7 @@ use mathlib.Core.List.{List}
 use lib.Dec.{eqb, leb, ltb}
 use lib.IntN.{ℤ, pos, negsuc}
 use Rattle.numbers.specs.Limits.{within, desksWithin, cellsWithin}
-use Rattle.cells.specs.Cells.{kindAt, dayAt, blank, filled, each, some}
+use Rattle.cells.specs.Cells.{kindAt, dayAt, blank, filled, each, anywhere}
 use Rattle.sound.specs.declared.Head.{Head}
 use Rattle.sound.specs.Head.{sequential, causal, ownTurn, readWaits, waitCell}
 
@@ -43,7 +43,7 @@ abbrev pub waitSound : Head → List ℕ → Bool
 waitSound h pkind =
     sequential h
     && (ltb (waitCell h) (h .m) && blank pkind (waitCell h))
-    && some 64 (filled pkind)
+    && anywhere 64 (filled pkind)
     && not (ownTurn h)
 
 -- the clauses, one to a line; the second line, that each kind stands for a content, is behind 01's words "content" and "blank"

@@ -11,7 +11,7 @@ use lib.ListN.{length, take, drop, length-drop}
 use lib.Seq.{take-all}
 use native.Mathlib.Omega.{arith}
 use borrow.Author.Tests.{eq-eqb, ne-eqb, lt-ltb, le-ltb, not-true, not-false}
-use Rattle.cells.specs.Cells.{kindAt, filled, some}
+use Rattle.cells.specs.Cells.{kindAt, filled, anywhere}
 use Rattle.sound.specs.declared.Head.{Head}
 use Rattle.sound.specs.Head.{ownTurn}
 use Rattle.desk.specs.declared.Desk.{Desk}
@@ -29,16 +29,16 @@ module _ (on : Bool) (h : Head) (pkind : List ℕ) (cell : ℕ) where
   module _ {kind : ℕ} (k : kind ≡ kindAt pkind cell) (e : not on ≡ false) (m : h .mode ≡ 1) where
     pub waits-pending : (kind ≡ 0 → ⊥) → false ≡ (on && waitsFor h pkind cell)
     unfolding waitsFor
-    waits-pending p = rw (not-false on e, ← k, ne-eqb kind 0 p, and-false (eqb (h .mode) 1 && some 64 (filled pkind)))
+    waits-pending p = rw (not-false on e, ← k, ne-eqb kind 0 p, and-false (eqb (h .mode) 1 && anywhere 64 (filled pkind)))
 
     module _ {own : Bool} (o : own ≡ ownTurn h) (b : kind ≡ 0) where
       pub waits-own-turn : own ≡ true → false ≡ (on && waitsFor h pkind cell)
       unfolding waitsFor
-      waits-own-turn p = rw (not-false on e, ← o, p, and-false ((eqb (h .mode) 1 && some 64 (filled pkind)) && eqb (kindAt pkind cell) 0))
+      waits-own-turn p = rw (not-false on e, ← o, p, and-false ((eqb (h .mode) 1 && anywhere 64 (filled pkind)) && eqb (kindAt pkind cell) 0))
 
-      pub waits-if-any : {any : Bool} → any ≡ some 64 (filled pkind) → own ≡ false → any ≡ (on && waitsFor h pkind cell)
+      pub waits-if-any : {any : Bool} → any ≡ anywhere 64 (filled pkind) → own ≡ false → any ≡ (on && waitsFor h pkind cell)
       unfolding waitsFor
-      waits-if-any a p = rw (not-false on e, ← o, p, eq-eqb (h .mode) 1 m, ← k, eq-eqb kind 0 b, and-true (some 64 (filled pkind)), and-true (some 64 (filled pkind))) a
+      waits-if-any a p = rw (not-false on e, ← o, p, eq-eqb (h .mode) 1 m, ← k, eq-eqb kind 0 b, and-true (anywhere 64 (filled pkind)), and-true (anywhere 64 (filled pkind))) a
 
 pub ruleset waitings = (waits-refused, waits-other-mode, waits-pending, waits-own-turn, waits-if-any)
 

@@ -14,8 +14,7 @@ use lib.ListN.{length}
 use borrow.Author.Tests.{eqb-true, eqb-false, ne-eqb, ltb-true, ltb-false}
 use Rattle.content.specs.declared.Content.{Content}
 use Rattle.content.specs.Content.{contentOf}
-use Rattle.cells.specs.Cells.{contentAt, filled, putIf}
-use Rattle.cells.specs.Cells as cells
+use Rattle.cells.specs.Cells.{contentAt, filled, putIf, anywhere}
 use Rattle.cells.proofs.Laws.{place-put, place-kept, some-at, some-if, no-place}
 use Rattle.figure.specs.Figure1.{Updates, ∅, remove, include, assign, Process}
 use Rattle.figure.specs.Map.{updatesOf}
@@ -53,7 +52,7 @@ module _ (kind : List ℕ) (day : List ℤ) where
   past-is-blank : (x : ℕ) → 64 ≤ x → filled kind x ≡ false
   past-is-blank x h = rw (← no-place 0 kind x h)
 
-  pub no-updates : cells.some 64 (filled kind) ≡ false → updatesOf kind day ≡ ∅
+  pub no-updates : anywhere 64 (filled kind) ≡ false → updatesOf kind day ≡ ∅
   no-updates e = fun-ext (λ x. by-test x (filled kind x) refl (ltb x 64) refl)
     where
       by-test : (x : ℕ) (t : Bool) → filled kind x ≡ t → (b : Bool) → ltb x 64 ≡ b → updatesOf kind day x ≡ none
@@ -61,7 +60,7 @@ module _ (kind : List ℕ) (day : List ℤ) where
       by-test x true p true q = absurd (false≢true (sym e ∙ some-if 64 (filled kind) x (ltb-true x 64 q) p))
       by-test x true p false q = absurd (false≢true (sym (past-is-blank x (ltb-false x 64 q)) ∙ p))
 
-  pub some-updates : cells.some 64 (filled kind) ≡ true → updatesOf kind day ≡ ∅ → ⊥
+  pub some-updates : anywhere 64 (filled kind) ≡ true → updatesOf kind day ≡ ∅ → ⊥
   some-updates e none-at-all =
       let there = some-at 64 (filled kind) e in
       let x = there .place in

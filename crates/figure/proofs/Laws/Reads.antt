@@ -13,8 +13,7 @@ use Rattle.answer.specs.Answer.{Rule}
 use Rattle.answer.specs.Promises.{Silent}
 use Rattle.answer.proofs.Laws.{answered-only-if, changed-if}
 use Rattle.content.specs.declared.Content.{Content}
-use Rattle.cells.specs.Cells.{contentAt, blank, filled}
-use Rattle.cells.specs.Cells as cells
+use Rattle.cells.specs.Cells.{contentAt, blank, filled, anywhere}
 use Rattle.sheet.proofs.Laws.Bools.{and-split}
 use Rattle.sound.specs.Head.{ownTurn, turnDesk, readWaits}
 use Rattle.desk.specs.declared.Desk.{Desk}
@@ -59,7 +58,7 @@ module _ (d : Desk) (tray : List ℕ) (x : ℕ) where
   waits-only-if e =
       let last = and-split _ (not (ownTurn (d .head))) e in
       let third = and-split _ (blank (d .pkind) x) (last .0) in
-      let first = and-split (eqb (d .head .mode) 1) (cells.some 64 (filled (d .pkind))) (third .0) in
+      let first = and-split (eqb (d .head .mode) 1) (anywhere 64 (filled (d .pkind))) (third .0) in
       record {
         is-sequential = rw (first .0);
         some-updates = some-updates (d .pkind) (d .pday) (first .1);
@@ -67,10 +66,10 @@ module _ (d : Desk) (tray : List ℕ) (x : ℕ) where
         elsewhere = eqb-false (turnDesk (d .head)) (d .head .own) (not-true _ (last .1));
       }
 
-  some-is : (processOf d tray .updates ≡ ∅ → ⊥) → cells.some 64 (filled (d .pkind)) ≡ true
-  some-is h = by-test (cells.some 64 (filled (d .pkind))) refl
+  some-is : (processOf d tray .updates ≡ ∅ → ⊥) → anywhere 64 (filled (d .pkind)) ≡ true
+  some-is h = by-test (anywhere 64 (filled (d .pkind))) refl
     where
-      by-test : (t : Bool) → cells.some 64 (filled (d .pkind)) ≡ t → cells.some 64 (filled (d .pkind)) ≡ true
+      by-test : (t : Bool) → anywhere 64 (filled (d .pkind)) ≡ t → anywhere 64 (filled (d .pkind)) ≡ true
       by-test true p = p
       by-test false p = absurd (h (no-updates (d .pkind) (d .pday) p))
 

@@ -9,7 +9,7 @@ use mathlib.Core.Bool.{Bool, true, false, cond, not}
 use native.Mathlib.Omega.{arith}
 use borrow.Author.Tests.{eqb-true, eqb-false, not-true}
 use Rattle.sheet.proofs.Laws.Bools.{and-split}
-use Rattle.cells.specs.Cells.{blank, filled, some}
+use Rattle.cells.specs.Cells.{blank, filled, anywhere}
 use Rattle.sound.specs.Head.{sequential, ownTurn, turnDesk}
 use Rattle.sound.proofs.Laws.Sound.{Waiting}
 use Rattle.desk.specs.declared.Desk.{Desk}
@@ -26,7 +26,7 @@ module _ (d : Desk) (cell : ℕ) where
   wait-says e low =
       let last = and-split _ (not (ownTurn (d .head))) e in
       let third = and-split _ (blank (d .pkind) cell) (last .0) in
-      let first = and-split (sequential (d .head)) (some 64 (filled (d .pkind))) (third .0) in
+      let first = and-split (sequential (d .head)) (anywhere 64 (filled (d .pkind))) (third .0) in
       let back : cell + 1 - 1 ≡ cell = omega arith in
       record {
         mode-is = eqb-true _ _ (first .0);

@@ -20,8 +20,7 @@ use Rattle.content.specs.Content.{dayOf}
 use Rattle.laying.specs.Laying.{laidOver}
 use Rattle.sheet.specs.Good.{good}
 use Rattle.sheet.proofs.Laws.Bools.{and-split}
-use Rattle.cells.specs.Cells.{placeAt, each, putIf}
-use Rattle.cells.specs.Cells as cells
+use Rattle.cells.specs.Cells.{placeAt, each, putIf, anywhere}
 use Rattle.sound.specs.Head.{readWaits, waitCell}
 use Rattle.sound.specs.Sound.{soundOf}
 use Rattle.tray.specs.Tray.{holdsGood, heldIn, clearedIn}
@@ -37,7 +36,7 @@ use Rattle.runs.specs.TurnRules.{ReadWaits, OneOf, first, further, TakesSheet, 
 unfoldable pub computing : Unit {0}
 unfolding answersOf start after afterAll put takesBy
     openOf writeOf mustWait readOf sendOf deliverOf takeOf
-    soundOf placeAt each cells.some putIf sheetOf pendingBelow laid wentOf holdsGood heldIn clearedIn laidOver good
+    soundOf placeAt each anywhere putIf sheetOf pendingBelow laid wentOf holdsGood heldIn clearedIn laidOver good
 computing = tt
 
 -- ---- few numbers

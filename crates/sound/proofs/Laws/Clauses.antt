@@ -12,7 +12,7 @@ use mathlib.Core.List.{List}
 use lib.Dec.{eqb, ltb, eqb·suc-zero}
 use lib.IntN.{ℤ, pos}
 use borrow.Author.Tests.{eqb-true, eq-eqb, ne-eqb, not-true, not-false}
-use Rattle.cells.specs.Cells.{kindAt, dayAt, filled, each, some}
+use Rattle.cells.specs.Cells.{kindAt, dayAt, filled, each, anywhere}
 use Rattle.cells.proofs.Laws.{each-same, each-both}
 use Rattle.sound.specs.declared.Head.{Head}
 use Rattle.sound.specs.Head.{ownTurn, readWaits}
@@ -26,7 +26,7 @@ module _ (h : Head) (pkind : List ℕ) where
   pub no-read : h .wait ≡ 0 → true ≡ (readWaits h implies waitSound h pkind)
   no-read e = rw (eq-eqb (h .wait) 0 e)
 
-  pub a-read : {kind : ℕ} {any own : Bool} → kind ≡ kindAt pkind (h .wait - 1) → any ≡ some 64 (filled pkind) → own ≡ ownTurn h → (h .wait ≡ 0 → ⊥)
+  pub a-read : {kind : ℕ} {any own : Bool} → kind ≡ kindAt pkind (h .wait - 1) → any ≡ anywhere 64 (filled pkind) → own ≡ ownTurn h → (h .wait ≡ 0 → ⊥)
       → (((eqb (h .mode) 1 && (ltb (h .wait - 1) (h .m) && eqb kind 0)) && any) && not own) ≡ (readWaits h implies waitSound h pkind)
   a-read k s o w = rw (k, s, o, ne-eqb (h .wait) 0 w)
 

@@ -9,7 +9,7 @@ use mathlib.Core.List.{List}
 use lib.Dec.{eqb, leb}
 use lib.IntN.{ℤ}
 use borrow.Author.Tests.{leb-true, ltb-true, eqb-true, eqb-false, le-leb, lt-ltb, eq-eqb, ne-eqb, not-true}
-use Rattle.cells.specs.Cells.{kindAt, dayAt, filled, some}
+use Rattle.cells.specs.Cells.{kindAt, dayAt, filled, anywhere}
 use Rattle.cells.proofs.Laws.{each-at, each-if}
 use Rattle.sound.specs.declared.Head.{Head}
 use Rattle.sound.specs.Head.{causal, readWaits}
@@ -21,7 +21,7 @@ pub record Waiting (h : Head) (pkind : List ℕ) : Type 0 where
   pub mode-is : h .mode ≡ 1
   pub cell-below : h .wait - 1 < h .m
   pub cell-blank : kindAt pkind (h .wait - 1) ≡ 0
-  pub something : some 64 (filled pkind) ≡ true
+  pub something : anywhere 64 (filled pkind) ≡ true
   pub elsewhere : h .turn % h .n ≡ h .own → ⊥
 
 pub record Sound (h : Head) (kind : List ℕ) (day : List ℤ) (pkind : List ℕ) (pday : List ℤ) : Type 0 where
