@@ -1,8 +1,8 @@
 -- Laws of `laid`, `wentOf` and `Applies` (specs/Applying.antt).
---   Every, every-at, every-of                  what holds of every entry of a list
+--   Every                                      what holds of every entry of a list
 --   laid-length, laid-append                   the array keeps its length; entries laid after others are laid on what those left
 --   laid-kept, laid-every                      a place that no entry goes to keeps what it had; what holds of a place and of every value laid holds after
---   went-append, went-within                   how many went, of two lists and of any
+--   went-within                                no more went than there are
 --   GoneSoFar                                  the loop over a sheet's entries: the whole is what went so far, and the rest
 --   applyings                                  a set for `search`: that loop begun, turned and ended, and a call whose bytes end too early
 -- Assumes nothing.
@@ -11,7 +11,7 @@ use mathlib.Core.Bool.{Bool, true, false, cond, _&&_}
 use mathlib.Core.List.{List, [], _∷_, _++_}
 use Prim.Native.Nat.{ℕ, zero, suc, _+_, _*_, _-_, _<_, _≤_}
 use native.Mathlib.Omega.{arith}
-use native.Mathlib.Nat.{not-suc-le-zero, le-of-suc-le-suc, sub-zero}
+use native.Mathlib.Nat.{sub-zero}
 use lib.Dec.{ltb}
 use lib.IntN.{ℤ}
 use lib.ListN.{length, getD, set, drop}
@@ -24,7 +24,7 @@ use Rattle.cells.specs.Cells.{placeAt, putIf}
 use Rattle.cells.proofs.Laws.{place-kept, place-length}
 use Rattle.layout.specs.declared.Entry.{Entry}
 use Rattle.layout.specs.Layout.{entryOf, entriesOf}
-use Rattle.sheet.specs.Reading.{noEntry, entryAt}
+use Rattle.sheet.specs.Reading.{entryAt}
 use Rattle.applying.specs.Applying.{goes, laid, kindOn, dayOn, wentOf, entriesIn, Applies}
 
 -- ---- what holds of every entry
@@ -32,17 +32,6 @@ use Rattle.applying.specs.Applying.{goes, laid, kindOn, dayOn, wentOf, e
 abbrev pub Every : (Entry → Type 0) → List Entry → Type 0
 Every Q [] = Unit {0}
 Every Q (e ∷ es) = Q e × Every Q es
-
--- shown of each by its index
-pub every-at : (Q : Entry → Type 0) (es : List Entry) → ((k : ℕ) → k < length es → Q (getD es k noEntry)) → Every Q es
-every-at Q [] f = tt
-every-at Q (e ∷ es) f = (f 0 (omega arith), every-at Q es (λ k h. f (suc k) (omega arith)))
-
--- and read off at an index
-pub every-of : (Q : Entry → Type 0) (es : List Entry) → Every Q es → (k : ℕ) → k < length es → Q (getD es k noEntry)
-every-of Q [] all k h = absurd (not-suc-le-zero h)
-every-of Q (e ∷ es) all zero h = all .0
-every-of Q (e ∷ es) all (suc k) h = every-of Q es (all .1) k (le-of-suc-le-suc h)
 
 -- ---- the array after entries
 
@@ -102,11 +91,6 @@ at-most-one true = omega arith
 at-most-one false = omega arith
 
 module _ (going : Entry → Bool) where
-  pub went-append : (es fs : List Entry) → wentOf going (es ++ fs) ≡ wentOf going es + wentOf going fs
-  unfolding wentOf
-  went-append [] fs = omega arith
-  went-append (e ∷ es) fs = omega (arith, went-append es fs)
-
   pub went-within : (es : List Entry) → wentOf going es ≤ length es
   unfolding wentOf
   went-within [] = omega arith

@@ -2,7 +2,7 @@
 // years and the days are counted from 1 January 1901, so year 0 is 1901. 01, "Calendar": "A year
 // that 4 divides has 29 days in February." All of this rule's code stands in this file.
 ghost use mathlib.Core.Path.{_≡_};
-ghost use Prim.Native.Nat.{_<_, _≤_};
+ghost use Prim.Native.Nat.{_<_};
 ghost use Rattle.calendar.specs.Spans.{before, spanOf};
 ghost use Rattle.calendar.specs.Calendar.{leap, yearLength};
 ghost use Rattle.calendar.specs.Parts.{daysInAll};

@@ -1,13 +1,11 @@
 -- Example 5's "always" and example 6's "only": by the rules of a read that is answered, and of a delivery that is.
 -- Assumes nothing.
 use mathlib.Core.Path.{_≡_, refl, sym, _∙_}
-use mathlib.Core.Bool.{Bool, true, false, _&&_, not, false≢true}
-use mathlib.Core.List.{List}
+use mathlib.Core.Bool.{Bool, true, false, _&&_}
 use Prim.Native.Nat.{ℕ, _%_, _≤_, _<_}
 use native.Mathlib.Omega.{arith}
 use native.Mathlib.Nat.{mod-lt}
 use borrow.Author.Tests.{eq-eqb}
-use Rattle.answer.specs.Answer.{answered}
 use Rattle.answer.proofs.Laws.{answered-only-if}
 use Rattle.layout.specs.Layout.{trailerIn}
 use Rattle.sheet.proofs.Laws.Good.{good-trailer-is-fair}

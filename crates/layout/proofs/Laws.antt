@@ -12,13 +12,9 @@ use native.Mathlib.Omega.{arith}
 use native.Mathlib.Nat.{not-suc-le-zero, le-of-suc-le-suc}
 use lib.ListN.{length, getD, take, drop, length-append, length-drop, take-append-drop}
 use lib.Seq.{drop-drop, drop-at, take-add, take-all}
-use mir.Syntax.{w32}
-use mir.Val.{SFits}
 use mir.Facts.{toZ-ofZ, fits-ofZ}
 use Rattle.numbers.specs.Numbers.{bytes, at1}
 use Rattle.numbers.proofs.Laws.{none, more, num-bytes, bytes-num}
-use Rattle.content.specs.declared.Content.{Content}
-use Rattle.content.specs.Content.{dayOf}
 use Rattle.content.proofs.Laws.Content.{content-again}
 use Rattle.layout.specs.declared.Entry.{Entry}
 use Rattle.layout.specs.declared.Trailer.{Trailer}

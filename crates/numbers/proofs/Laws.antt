@@ -1,8 +1,8 @@
 -- Laws of `num` and `bytes`: numbers to bytes and back, once for every count of bytes.
---   length-bytes, bytes-are      how many bytes there are, and that they are bytes
+--   bytes-are                    that they are bytes
 --   num-bytes, bytes-num         a number's bytes make the number; the bytes of what bytes make are those bytes
 -- Assumes nothing.
-use mathlib.Core.Path.{_≡_, refl, ap}
+use mathlib.Core.Path.{_≡_, refl}
 use mathlib.Core.List.{List, [], _∷_}
 use Prim.Native.Nat.{ℕ, zero, suc, _+_, _*_, _/_, _%_, _<_, _^_}
 use native.Mathlib.Omega.{arith}
@@ -13,10 +13,6 @@ use Rattle.numbers.specs.Numbers.{num, bytes}
 pub data Bytes : List ℕ → Type 0 where
   none : Bytes []
   more : {b : ℕ} {bs : List ℕ} → b < 256 → Bytes bs → Bytes (b ∷ bs)
-
-pub length-bytes : (k n : ℕ) → length (bytes k n) ≡ k
-length-bytes zero n = refl
-length-bytes (suc k) n = ap suc (length-bytes k (n / 256))
 
 pub bytes-are : (k n : ℕ) → Bytes (bytes k n)
 bytes-are zero n = none

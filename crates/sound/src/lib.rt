@@ -3,7 +3,6 @@
 // A record comes as its head, the numbers, and its four arrays, lent. Each loop makes one test of
 // its places to the last and never stops early, so that it compiles to a few wide instructions.
 ghost use mathlib.Core.Path.{_≡_};
-ghost use mathlib.Core.Bool.{cond};
 ghost use Rattle.cells.specs.Cells.{kindAt, dayAt, each};
 ghost use Rattle.sound.specs.Head.{turnDesk, ownTurn, readWaits};
 ghost use Rattle.sound.specs.Sound.{sameDay, limits, dayFits, waitSound, _implies_, soundOf};

@@ -89,9 +89,6 @@ module _ (d : Desk) where
 
   -- ---- the loop
 
-  going : Entry → Bool
-  going = goes (head.causal (d .head)) (d .pkind)
-
   pub entries-loop : (es : List Entry) (kind : List ℕ) (day : List ℤ) → length kind ≡ 64 → length day ≡ 64
       → rising es ≡ true → every (below 64) es ≡ true
       → Loop (d .head .n) (d .head .own) (modelOf (d .head .mode)) (updatesOf (d .pkind) (d .pday)) (updatesIn es) (contentAt kind day) (length es)

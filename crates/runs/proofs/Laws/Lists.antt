@@ -1,15 +1,13 @@
 -- Laws of lists of calls, for whatever calls a desk has.
---   afterAll-append, answersOf-append, takesBy-append      calls after calls: what there is after both, what they answer, how many takes of a desk
+--   afterAll-append, answersOf-append      calls after calls: what there is after both, and what they answer
 --   run-append, run-split                             they are a run exactly if the first are one, and the others are one from there on
 --   along                                             what is so of no calls, and of one call more, is so of every run
 -- Assumes nothing.
 use mathlib.Core.Path.{_≡_, refl, ap}
 use mathlib.Core.List.{List, [], _∷_, _++_}
-use Prim.Native.Nat.{ℕ, _+_}
-use native.Mathlib.Omega.{arith}
+use Prim.Native.Nat.{ℕ}
 use Rattle.answer.specs.Answer.{Answer}
 use Rattle.desk.specs.Answers.{Value}
-use Rattle.runs.specs.TurnRules.{takesBy}
 use Rattle.runs.specs.Calls.{Calls, Call}
 use Rattle.runs.specs.Run.{State, made, after, Possible, Run, afterAll, answersOf}
 
@@ -32,11 +30,6 @@ pub answersOf-append : (calls : Calls) (s : State) (cs ds : List Call) → answe
 unfolding answersOf afterAll
 answersOf-append calls s [] ds = refl
 answersOf-append calls s (c ∷ cs) ds = ap (λ (l : List (Answer Value)). made calls s c .answer ∷ l) (answersOf-append calls (after calls s c) cs ds)
-
-pub takesBy-append : (calls : Calls) (p : ℕ) (s : State) (cs ds : List Call) → takesBy calls p s (cs ++ ds) ≡ takesBy calls p s cs + takesBy calls p (afterAll calls s cs) ds
-unfolding takesBy afterAll
-takesBy-append calls p s [] ds = omega arith
-takesBy-append calls p s (c ∷ cs) ds = omega (arith, takesBy-append calls p (after calls s c) cs ds)
 
 -- what is so of no calls, and of one call more whenever it is so before it, is so of every run
 pub along : (calls : Calls) (n : ℕ) (s : State) (P : List Call → State → Type 0)

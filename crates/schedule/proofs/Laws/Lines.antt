@@ -1,5 +1,5 @@
 -- Laws of `linesOf` (specs/Lines.antt).
---   no-lines, lines-over, line-taken, line-ended, line-cut    the lines from a place on, one by one: what a walk from line to line cites
+--   no-lines, line-taken, line-ended, line-cut         the lines from a place on, one by one: what a walk from line to line cites
 --   LinesSoFar, lines-counted                          the loop of `lines_in`, and its laws as a set for `search`
 -- Assumes nothing.
 use mathlib.Core.Path.{_≡_, refl, sym, ap, _∙_}
@@ -25,10 +25,6 @@ unfolding linesOf parts
 no-lines = refl
 
 module _ (input : List ℕ) (from : ℕ) where
-  -- nothing is left
-  pub lines-over : length input ≤ from → linesOf (drop from input) ≡ []
-  lines-over h = ap linesOf (drop-of-length-le input h) ∙ no-lines
-
   -- where the line ends that starts at `from`
   abbrev lineEnd : ℕ
   lineEnd = from + length (firstPart lineFeed (drop from input))

@@ -5,7 +5,7 @@
 --   good-is-long, good-trailer-is-fair, good-entries-are, good-length, good-within    what a good sheet is known to be
 --   few-entries                              no more entries than cells
 --   sheet-bad, sheet-good                    the bytes of values are good exactly if the values are
---   open-or-day, blank-is-never-sent, open-is-sent, day-is-sent    contents in entries
+--   open-or-day                              contents in entries
 -- Assumes nothing.
 use mathlib.Core.Path.{_≡_, refl, sym, ap, _∙_}
 use mathlib.Core.List.{List, [], _∷_}
@@ -17,15 +17,13 @@ use lib.ListN.{length, getD, drop, drop-of-length-le}
 use lib.Seq.{drop-cons}
 use lib.Dec.{eqb, leb, ltb}
 use borrow.Author.Tests.{le-leb, lt-leb, eqb-true, leb-true, leb-false, ltb-true}
-use lib.IntN.{ℤ}
 use mir.Syntax.{w32}
 use mir.Val.{toZ}
-use Rattle.content.specs.declared.Content.the-variants.{Blank, Open, Day}
 use Rattle.content.specs.Content.{contentOf}
 use Rattle.layout.specs.declared.Entry.{Entry}
 use Rattle.layout.specs.declared.Trailer.{Trailer}
-use Rattle.layout.specs.Layout.{trailerBytes, sheetBytes, entryOf, entriesOf, trailerIn, entryFor}
-use Rattle.numbers.specs.Limits.{within, desksWithin, cellsWithin}
+use Rattle.layout.specs.Layout.{trailerBytes, sheetBytes, entryOf, entriesOf, trailerIn}
+use Rattle.numbers.specs.Limits.{desksWithin, cellsWithin}
 use Rattle.sheet.specs.Good.{every, nextAbove, rising, below, kindAndDay, good}
 use Rattle.sheet.specs.Promises.{OpenOrDay, is-open, is-day}
 use Rattle.layout.specs.Values.{DaysFit}
@@ -240,14 +238,3 @@ open-or-day e g = by-kind (eqb (e .kind) 2) refl
     by-kind false p =
         let k : e .kind ≡ 1 = eqb-true (e .kind) 1 (not-two (eqb (e .kind) 1) (eqb (e .day) 0) (rw p at g)) in
         is-open k (ap (λ (x : ℕ). contentOf x (toZ w32 (e .day))) k)
-
--- 01: "Blank means never written": a blank has no good entry, and is never sent
-pub blank-is-never-sent : (cell : ℕ) → kindAndDay (entryFor cell Blank) ≡ false
-blank-is-never-sent cell = refl
-
--- open and every day have one
-pub open-is-sent : (cell : ℕ) → kindAndDay (entryFor cell Open) ≡ true
-open-is-sent cell = refl
-
-pub day-is-sent : (cell : ℕ) (d : ℤ) → kindAndDay (entryFor cell (Day d)) ≡ true
-day-is-sent cell d = refl

@@ -2,13 +2,12 @@
 --   place-there                                  a tray of n places has the place of each desk below n
 --   by-size                                      a fact about what putting a sheet into a place leaves, from the two cases
 --   held-long, cleared-long                      a tray is as long as before
---   HoldsGood, holds-says, holds-if              what `holdsGood` says, as facts
---   holds-not-free, holds-look                   a place that holds a good sheet is not free, and a look finds the sheet's numbers
---   looked-free, looked-holds, looked-spoilt     what a look says of the place
---   Held, held-found, held-holds, held-look      a sheet that was put into a place is found there
+--   HoldsGood, holds-says                        what `holdsGood` says, as facts
+--   holds-not-free                               a place that holds a good sheet is not free
+--   Held, held-found, held-holds                 a sheet that was put into a place is found there
 --   cleared-free                                 a cleared place is free
 --   SamePlace, held-others, cleared-others       every other place stays, byte for byte
---   same-length-at, same-free, same-sheet, same-sheet-held, same-holds, same-look      and then it is in all respects as before
+--   same-length-at, same-free, same-sheet, same-sheet-held, same-holds      and then it is in all respects as before
 -- Assumes nothing.
 use mathlib.Core.Path.{_≡_, refl, sym, ap, _∙_}
 use mathlib.Core.List.{List, _++_}
@@ -22,16 +21,11 @@ use lib.Seq.{take-append-seam, take-all, drop-at}
 use borrow.Author.Tests.{le-leb, lt-leb, leb-true, leb-false, ltb-true, ltb-false, eq-eqb, ne-eqb}
 use Rattle.numbers.specs.Numbers.{bytes, at1, at2}
 use Rattle.laying.specs.Laying.{laidOver}
-use Rattle.layout.specs.declared.Numbers.{Numbers}
-use Rattle.layout.specs.Layout.{trailerIn, numbersOf}
 use Rattle.sheet.specs.Good.{good}
 use Rattle.sheet.proofs.Laws.Bools.{and-split}
 use Rattle.sheet.proofs.Laws.Good.{good-within}
-use Rattle.tray.specs.declared.Place.{Place}
-use Rattle.tray.specs.declared.Place.the-variants as place
-use Rattle.tray.specs.Tray.{start, lengthAt, free, sheetAt, restAt, zeros, holdsGood, placeOf, placeBytes, heldIn, clearedIn}
+use Rattle.tray.specs.Tray.{start, lengthAt, free, sheetAt, restAt, zeros, holdsGood, placeBytes, heldIn, clearedIn}
 use Rattle.tray.proofs.Laws.Zeros.{zeros-are}
-use Rattle.tray.proofs.Laws.Looking.{place-free, place-holds, place-spoilt}
 use Rattle.tray.proofs.Laws.Holding.{place-long, held-not, held-is}
 use Rattle.tray.proofs.Laws.Parts.{laid-long, laid-inside, laid-before, laid-after, part-of, byte-of}
 
@@ -80,58 +74,10 @@ module _ (tray : List ℕ) (q : ℕ) where
         rest-zeros = rest .1;
       }
 
-  pub holds-if : HoldsGood tray q → holdsGood tray q ≡ true
-  unfolding holdsGood
-  holds-if h =
-      rw (le-leb (start q + 398) (length tray) (h .room), le-leb (lengthAt tray q) 396 (h .few), h .sheet-good, h .rest-zeros)
-
   pub holds-not-free : holdsGood tray q ≡ true → free tray q ≡ false
   holds-not-free h =
       let within = good-within (sheetAt tray q) (holds-says h .sheet-good) in
       ne-eqb (lengthAt tray q) 0 (λ e. omega (arith, within .0, length-take (lengthAt tray q) (drop (start q + 2) tray)))
-
-  pub holds-look : holdsGood tray q ≡ true → placeOf tray q ≡ place.Holds (numbersOf (trailerIn (sheetAt tray q)))
-  holds-look h = place-holds tray q (holds-not-free h) h
-
--- ---- what a look says
-
-module _ (tray : List ℕ) (q : ℕ) where
-  -- a fact about a look, from its three cases
-  by-place : (P : Place → Type 0)
-      → (free tray q ≡ true → P place.Free)
-      → (holdsGood tray q ≡ true → P (place.Holds (numbersOf (trailerIn (sheetAt tray q)))))
-      → (free tray q ≡ false → holdsGood tray q ≡ false → P place.Spoilt)
-      → P (placeOf tray q)
-  by-place P none held neither = by-free (free tray q) refl
-    where
-      by-good : free tray q ≡ false → (g : Bool) → holdsGood tray q ≡ g → P (placeOf tray q)
-      by-good f true g = rw (place-holds tray q f g) (held g)
-      by-good f false g = rw (place-spoilt tray q f g) (neither f g)
-
-      by-free : (f : Bool) → free tray q ≡ f → P (placeOf tray q)
-      by-free true f = rw (place-free tray q f) (none f)
-      by-free false f = by-good f (holdsGood tray q) refl
-
-  pub looked-free : placeOf tray q ≡ place.Free → free tray q ≡ true
-  looked-free =
-      by-place (λ (p : Place). p ≡ place.Free → free tray q ≡ true)
-      (λ f e. f)
-      (λ g e. let z : _≡_ {A = ℕ} 0 1 = cc in absurd (omega arith))
-      (λ f g e. let z : _≡_ {A = ℕ} 0 1 = cc in absurd (omega arith))
-
-  pub looked-holds : (n : Numbers) → placeOf tray q ≡ place.Holds n → (holdsGood tray q ≡ true) × (n ≡ numbersOf (trailerIn (sheetAt tray q)))
-  looked-holds n =
-      by-place (λ (p : Place). p ≡ place.Holds n → (holdsGood tray q ≡ true) × (n ≡ numbersOf (trailerIn (sheetAt tray q))))
-      (λ f e. let z : _≡_ {A = ℕ} 0 1 = cc in absurd (omega arith))
-      (λ g e. (g, cc))
-      (λ f g e. let z : _≡_ {A = ℕ} 0 1 = cc in absurd (omega arith))
-
-  pub looked-spoilt : placeOf tray q ≡ place.Spoilt → (free tray q ≡ false) × (holdsGood tray q ≡ false)
-  looked-spoilt =
-      by-place (λ (p : Place). p ≡ place.Spoilt → (free tray q ≡ false) × (holdsGood tray q ≡ false))
-      (λ f e. let z : _≡_ {A = ℕ} 0 1 = cc in absurd (omega arith))
-      (λ g e. let z : _≡_ {A = ℕ} 0 1 = cc in absurd (omega arith))
-      (λ f g e. (f, g))
 
 -- ---- a place by its 398 bytes
 
@@ -197,12 +143,6 @@ module _ (tray : List ℕ) (q : ℕ) (s : List ℕ) where
       let found = held-found few room in
       rw (le-leb (start q + 398) (length (heldIn tray q s)) (omega (arith, held-long tray q s)), le-leb (lengthAt (heldIn tray q s) q) 396 (omega (arith, found .length-is)), found .sheet-is, found .rest-zeros)
       (and-true (good s))
-
-  pub held-look : good s ≡ true → start q + 398 ≤ length tray → placeOf (heldIn tray q s) q ≡ place.Holds (numbersOf (trailerIn s))
-  held-look g room =
-      let few = good-within s g .1 in
-      holds-look (heldIn tray q s) q (held-holds few room ∙ g)
-      ∙ ap (λ (l : List ℕ). place.Holds (numbersOf (trailerIn l))) (held-found few room .sheet-is)
 
 -- ---- a place that was cleared
 
@@ -273,10 +213,3 @@ module _ (t u : List ℕ) (p : ℕ) (same : SamePlace t u p) where
 
   pub same-sheet-held : holdsGood t p ≡ true → sheetAt t p ≡ sheetAt u p
   same-sheet-held h = same-sheet (holds-says t p h .few)
-
-  pub same-look : placeOf t p ≡ placeOf u p
-  same-look =
-      by-place t p (λ (x : Place). x ≡ placeOf u p)
-      (λ f. sym (place-free u p (sym same-free ∙ f)))
-      (λ g. ap (λ (l : List ℕ). place.Holds (numbersOf (trailerIn l))) (same-sheet-held g) ∙ sym (holds-look u p (sym same-holds ∙ g)))
-      (λ f g. sym (place-spoilt u p (sym same-free ∙ f) (sym same-holds ∙ g)))

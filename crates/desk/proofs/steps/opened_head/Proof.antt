@@ -1,6 +1,5 @@
 -- `steps::opened_head` meets its contract.
 -- Assumes nothing.
-use borrow.Author.Needs.{needs}
 use borrow.Author.Tests.{eq-eqb, ne-eqb}
 use Rattle.desk.specs.Parts.{openedHead}
 use Rattle.desk.proofs.steps.opened_head.Statement.{statement}
