@@ -52,7 +52,7 @@ pub fn send_number(ok: bool, h: Head) -> u8
     first(!ok, 5, elsewhere)
 }
 
-// Deliver: 5, 12; then the sheet is read.
+// Deliver and take: 5, 12; then the sheet is read, or the turn looked at.
 pub fn tray_number(ok: bool, h: Head, size: usize) -> u8
     ensures { λ r. ⌜ r ≡ numberOf (trayRules ok h size) ⌝ }
 {
@@ -82,7 +82,7 @@ pub fn take_number(ok: bool, h: Head, size: usize) -> u8
     first(tray != 0, tray, mine)
 }
 
-// "a good sheet of this shelf with that sender and turn number".
+// Of a good sheet's numbers: "of this shelf with that sender and turn number".
 fn is_next(h: Head, x: Numbers) -> bool
     ensures { λ r. ⌜ r ≡ isNext h x ⌝ }
 {
@@ -111,10 +111,15 @@ pub fn look(h: Head, tray: &[u8], q: u8) -> Looked
             entries: 0,
         },
         Place::Holds(x) => {
-            let next = is_next(h, x);
+            if is_next(h, x) {
+                return Looked {
+                    number: 0,
+                    entries: x.entries,
+                };
+            }
             Looked {
-                number: first(!next, 21, 0),
-                entries: first(!next, 0, x.entries),
+                number: 21,
+                entries: 0,
             }
         }
     }

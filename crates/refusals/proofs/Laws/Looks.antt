@@ -41,9 +41,13 @@ module _ (h : Head) (tray : List ℕ) (q : ℕ) where
     unfolding by
     look-spoilt e = found e
 
-    pub look-holds : (x : Numbers) → p ≡ place.Holds x → {next : Bool} → next ≡ isNext h x → {k n : ℕ} → k ≡ cond (not next) 21 0 → n ≡ cond (not next) 0 (x .entries)
-        → _≡_ {A = Looked} (record { number = k; entries = n }) (lookedAt h tray q)
-    unfolding by
-    look-holds x e is k n = rw (k, n, is) (found e)
+    module _ (x : Numbers) (e : p ≡ place.Holds x) {next : Bool} (is : next ≡ isNext h x) where
+      pub look-next : next ≡ true → _≡_ {A = Looked} (record { number = 0; entries = x .entries }) (lookedAt h tray q)
+      unfolding by
+      look-next t = rw (sym is ∙ t) at (found e)
 
-pub ruleset lookings = (look-free, look-spoilt, look-holds)
+      pub look-other : next ≡ false → _≡_ {A = Looked} (record { number = 21; entries = 0 }) (lookedAt h tray q)
+      unfolding by
+      look-other t = rw (sym is ∙ t) at (found e)
+
+pub ruleset lookings = (look-free, look-spoilt, look-next, look-other)

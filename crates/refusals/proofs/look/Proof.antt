@@ -20,12 +20,6 @@ enum-known-x c = search needs
 is-next-requires : tie.Need-is-next-requires
 is-next-requires c κs = search needs
 
-first-requires : tie.Need-first-requires
-first-requires c κs = search needs
-
-first-requires-2 : tie.Need-first-requires-2
-first-requires-2 c κs = search needs
-
 returns : tie.Need-returns
 returns c = search (lookings, needs)
 
@@ -34,6 +28,9 @@ returns-2 c = search (lookings, needs)
 
 returns-3 : tie.Need-returns-3
 returns-3 c = search (lookings, needs)
+
+returns-4 : tie.Need-returns-4
+returns-4 c = search (lookings, needs)
 
 pub look-spec : {M : Type 1} → statement M
 look-spec =
@@ -44,8 +41,7 @@ look-spec =
     enum-told-2
     enum-known-x
     is-next-requires
-    first-requires
-    first-requires-2
     returns
     returns-2
-    returns-3)
+    returns-3
+    returns-4)
