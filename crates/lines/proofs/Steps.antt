@@ -16,6 +16,7 @@ use Rattle.text.specs.Decimal.{value, decimal}
 use Rattle.text.proofs.Laws.Decimal.{and-split}
 use Rattle.schedule.specs.Lines.{Line, ended, cut}
 use Rattle.schedule.specs.Words.{words, is, isNumber, isDesk, isContent, contentIn}
+use Rattle.content.specs.declared.Content.{Content}
 use Rattle.schedule.specs.Step.{Act, writes, reads, sends, delivers, takes, Step, writeIn, readIn, deliverIn, deskIn, stepOf, stepIn}
 use Rattle.lines.specs.Line.{spaced, contentWord, wordsBy, stepLine}
 use Rattle.lines.specs.Promises.{StepInRange, StepsAreInRange, OneLinePerStep, EveryStepHasALine}
@@ -111,27 +112,24 @@ module _ (n : ℕ) (step : Step) (l : List ℕ) where
       }) e
   act-tells letter a t range words (p ∷ word ∷ ws) e = nothing _ e
 
-  send-range : (p : ℕ) → p < n → StepInRange n (record { desk = p; act = sends })
-  send-range p h =
+  -- a step that names no sender and no cell
+  plain-range : (a : Act) → ((q : ℕ) → a ≡ delivers q → ⊥) → ((k : ℕ) (x : Content) → a ≡ writes k x → ⊥) → ((k : ℕ) → a ≡ reads k → ⊥)
+      → (p : ℕ) → p < n → StepInRange n (record { desk = p; act = a })
+  plain-range a no-sender no-write no-read p h =
       record {
         desk = h;
-        sender = λ q s. apart (cc);
-        cell-written = λ k x s. apart (cc);
-        cell-read = λ k s. apart (cc);
-        day = λ k x s. apart (cc);
-        not-blank = λ k x s b. apart (cc);
+        sender = λ q s. absurd (no-sender q s);
+        cell-written = λ k x s. absurd (no-write k x s);
+        cell-read = λ k s. absurd (no-read k s);
+        day = λ k x s. absurd (no-write k x s);
+        not-blank = λ k x s b. no-write k x s;
       }
 
+  send-range : (p : ℕ) → p < n → StepInRange n (record { desk = p; act = sends })
+  send-range = plain-range sends (λ q s. apart (cc)) (λ k x s. apart (cc)) (λ k s. apart (cc))
+
   take-range : (p : ℕ) → p < n → StepInRange n (record { desk = p; act = takes })
-  take-range p h =
-      record {
-        desk = h;
-        sender = λ q s. apart (cc);
-        cell-written = λ k x s. apart (cc);
-        cell-read = λ k s. apart (cc);
-        day = λ k x s. apart (cc);
-        not-blank = λ k x s b. apart (cc);
-      }
+  take-range = plain-range takes (λ q s. apart (cc)) (λ k x s. apart (cc)) (λ k s. apart (cc))
 
   either : (ws : List (List ℕ)) (t : Bool) (x y : Option Step) → (t ≡ true → x ≡ some step → Tells n ws step) → (y ≡ some step → Tells n ws step)
       → cond t x y ≡ some step → Tells n ws step

@@ -2,14 +2,13 @@
 -- Assumes nothing.
 use Prim.Native.Nat.{ℕ, _+_, _≤_}
 use mathlib.Core.Path.{_≡_}
-use mathlib.Core.Bool.{Bool, true, false, cond, _||_}
+use mathlib.Core.Bool.{Bool, cond, _||_}
 use mathlib.Core.List.{List, [], _∷_, _++_}
 use mathlib.Core.Option.{Option, none, some}
 use lib.Dec.{ltb}
 use lib.ListN.{length}
-use Rattle.answer.specs.Answer.{Answer, refused, answered}
+use Rattle.answer.specs.Answer.{accepted}
 use Rattle.laying.specs.Laying.{laidOver}
-use Rattle.desk.specs.Answers.{Value}
 use Rattle.desk.specs.Calls.{modeFor, openOf}
 use Rattle.runs.specs.Run.{Shelf, State, start}
 use Rattle.text.specs.Text.{text}
@@ -48,13 +47,9 @@ numbered k (a ∷ rest) = lineText k a ++ numbered (k + 1) rest
 abbrev pub shelfOf : Start → Shelf
 shelfOf x = record { n = x .n; m = x .m; mode = λ p. x .mode }
 
-abbrev pub isAnswered : Answer Value → Bool
-isAnswered (refused number) = false
-isAnswered (answered v) = true
-
 -- its desks can be opened; the first of them can exactly if all can (`FirstAsAll`, crates/ruled/specs/Promises.antt)
 abbrev pub opens : Start → Bool
-opens x = isAnswered (openOf (x .n) (x .m) 0 (x .mode) .answer)
+opens x = accepted (openOf (x .n) (x .m) 0 (x .mode) .answer)
 
 abbrev pub badStart : List ℕ
 badStart = text "bad start\n"

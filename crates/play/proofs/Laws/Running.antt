@@ -22,7 +22,8 @@ use Rattle.runs.proofs.Laws.Steps.{by-call}
 use Rattle.schedule.specs.declared.Step as declared
 use Rattle.schedule.specs.Lines.{ended, linesOf}
 use Rattle.schedule.specs.Step.{stepIn, saidStep}
-use Rattle.play.specs.Rounds.{tooLong, isAnswered}
+use Rattle.answer.specs.Answer.{accepted}
+use Rattle.play.specs.Rounds.{tooLong}
 use Rattle.play.specs.Parts.Running.{noDesk, AllOpened, clearTrays, noSheets, stepAt, modeInForce}
 
 -- ---- the input's length
@@ -38,7 +39,7 @@ pub mode-by-head : (n m mode : ℕ) (o : Outcome) → outcome o [] ≡ openOf n 
 unfolding openOf
 mode-by-head n m mode o is =
     ap (λ (x : Done). x .desk .head .mode) is
-    ∙ by-call (λ (x : Done). x .desk .head .mode ≡ cond (isAnswered (x .answer)) (modeFor mode) 0) (openRules n m 0 mode) (blankDesk (freshHead 0 0 0 0)) [] opened
+    ∙ by-call (λ (x : Done). x .desk .head .mode ≡ cond (accepted (x .answer)) (modeFor mode) 0) (openRules n m 0 mode) (blankDesk (freshHead 0 0 0 0)) [] opened
     (blankDesk (freshHead n m 0 (modeFor mode)))
     []
     (λ k first. refl)

@@ -28,7 +28,8 @@ use Rattle.schedule.specs.declared.Start as declared
 use Rattle.schedule.specs.declared.Start.the-variants as cases
 use Rattle.schedule.proofs.Laws.Lines.{no-lines}
 use Rattle.printing.specs.Printing.{wrote, headerText}
-use Rattle.play.specs.Rounds.{tooLong, isAnswered, opens, badStart, runText, linesText, printed, Prints}
+use Rattle.answer.specs.Answer.{accepted}
+use Rattle.play.specs.Rounds.{tooLong, opens, badStart, runText, linesText, printed, Prints}
 use Rattle.play.specs.Parts.Running.{Runs, runOf, Ran, modeInForce, ShelfPlays, shelfText}
 use Rattle.play.proofs.Laws.Lines.{ended-here, cut-here}
 use Rattle.play.proofs.Laws.Playing.{line-laid, line-end}
@@ -42,7 +43,7 @@ or-split false b e = (refl, e)
 pub opens-says : (n m mode : ℕ) → opens (record { n = n; m = m; mode = mode }) ≡ true → OpenAllowed n m 0 mode
 unfolding openOf
 opens-says n m mode =
-    by-call (λ (x : Done). isAnswered (x .answer) ≡ true → OpenAllowed n m 0 mode) (openRules n m 0 mode) (blankDesk (freshHead 0 0 0 0)) [] opened
+    by-call (λ (x : Done). accepted (x .answer) ≡ true → OpenAllowed n m 0 mode) (openRules n m 0 mode) (blankDesk (freshHead 0 0 0 0)) [] opened
     (blankDesk (freshHead n m 0 (modeFor mode)))
     []
     (λ k first e. absurd (false≢true e))
