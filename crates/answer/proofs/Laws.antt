@@ -19,7 +19,7 @@ use lib.Dec.{eqb}
 use borrow.Author.Tests.{eqb-true, eqb-false}
 use Rattle.answer.specs.Promises.{Silent, First, this, later, EveryCallAnswers, RefusedChangesNothing}
 use Rattle.answer.specs.Parts.{Numbered}
-use Rattle.answer.specs.Answer.{Answer, refused, answered, Rule, answer, leaves, numberOf}
+use Rattle.answer.specs.Answer.{Answer, refused, answered, Rule, answer, leaves, firstNumber}
 
 pub refused-is-not-answered : {A : Type 0} (k : ℕ) (a : A) → refused k ≡ answered a → ⊥
 refused-is-not-answered k a e = let z : _≡_ {A = ℕ} 0 1 = cc in omega arith
@@ -69,31 +69,31 @@ unchanged-if before after (later p f) = rw p (unchanged-if before after f)
 
 -- ---- by its number
 
-pub silent-if-0 : (rs : List Rule) → Numbered rs → numberOf rs ≡ 0 → Silent rs
-unfolding numberOf
+pub silent-if-0 : (rs : List Rule) → Numbered rs → firstNumber rs ≡ 0 → Silent rs
+unfolding firstNumber
 silent-if-0 [] some e = tt
 silent-if-0 (r ∷ rs) some e = by-test (silent-if-0 rs (some .1)) (r .applies) refl
   where
-    by-test : (numberOf rs ≡ 0 → Silent rs) → (t : Bool) → r .applies ≡ t → Silent (r ∷ rs)
+    by-test : (firstNumber rs ≡ 0 → Silent rs) → (t : Bool) → r .applies ≡ t → Silent (r ∷ rs)
     by-test rest true p = let z : r .number ≡ 0 = sym (rw p) ∙ e in absurd (omega (arith, some .0, z))
     by-test rest false p = (p, rest (sym (rw p) ∙ e))
 
-pub first-if-number : (rs : List Rule) (k : ℕ) → numberOf rs ≡ k → (k ≡ 0 → ⊥) → First k rs
-unfolding numberOf
+pub first-if-number : (rs : List Rule) (k : ℕ) → firstNumber rs ≡ k → (k ≡ 0 → ⊥) → First k rs
+unfolding firstNumber
 first-if-number [] k e h = absurd (h (sym e))
 first-if-number (r ∷ rs) k e h = by-test (first-if-number rs k) (r .applies) refl
   where
-    by-test : (numberOf rs ≡ k → (k ≡ 0 → ⊥) → First k rs) → (t : Bool) → r .applies ≡ t → First k (r ∷ rs)
+    by-test : (firstNumber rs ≡ k → (k ≡ 0 → ⊥) → First k rs) → (t : Bool) → r .applies ≡ t → First k (r ∷ rs)
     by-test rest true p = let n : r .number ≡ k = sym (rw p) ∙ e in this p n
     by-test rest false p = later p (rest (sym (rw p) ∙ e) h)
 
-pub number-of-silent : (rs : List Rule) → Silent rs → numberOf rs ≡ 0
-unfolding numberOf
+pub number-of-silent : (rs : List Rule) → Silent rs → firstNumber rs ≡ 0
+unfolding firstNumber
 number-of-silent [] s = refl
 number-of-silent (r ∷ rs) s = rw (s .0) (number-of-silent rs (s .1))
 
-pub number-of-first : {rs : List Rule} {k : ℕ} → First k rs → numberOf rs ≡ k
-unfolding numberOf
+pub number-of-first : {rs : List Rule} {k : ℕ} → First k rs → firstNumber rs ≡ k
+unfolding firstNumber
 number-of-first (this p n) = rw p n
 number-of-first (later p f) = rw p (number-of-first f)
 
@@ -106,29 +106,29 @@ numbered-both [] more some rest = rest
 numbered-both (r ∷ rs) more some rest = (some .0, numbered-both rs more (some .1) rest)
 
 -- rules that are tested in two parts: where one of the first applies, the rest do not count; where none does, they alone count
-pub first-of-both : (rs more : List Rule) (k : ℕ) → numberOf rs ≡ k → (k ≡ 0 → ⊥) → numberOf (rs ++ more) ≡ k
-unfolding numberOf
+pub first-of-both : (rs more : List Rule) (k : ℕ) → firstNumber rs ≡ k → (k ≡ 0 → ⊥) → firstNumber (rs ++ more) ≡ k
+unfolding firstNumber
 first-of-both [] more k e h = absurd (h (sym e))
 first-of-both (r ∷ rs) more k e h = by-test (first-of-both rs more k) (r .applies) refl
   where
-    by-test : (numberOf rs ≡ k → (k ≡ 0 → ⊥) → numberOf (rs ++ more) ≡ k) → (t : Bool) → r .applies ≡ t → numberOf ((r ∷ rs) ++ more) ≡ k
+    by-test : (firstNumber rs ≡ k → (k ≡ 0 → ⊥) → firstNumber (rs ++ more) ≡ k) → (t : Bool) → r .applies ≡ t → firstNumber ((r ∷ rs) ++ more) ≡ k
     by-test rest true p = rw p (sym (rw p) ∙ e)
     by-test rest false p = rw p (rest (sym (rw p) ∙ e) h)
 
-pub second-of-both : (rs more : List Rule) → Numbered rs → numberOf rs ≡ 0 → numberOf (rs ++ more) ≡ numberOf more
-unfolding numberOf
+pub second-of-both : (rs more : List Rule) → Numbered rs → firstNumber rs ≡ 0 → firstNumber (rs ++ more) ≡ firstNumber more
+unfolding firstNumber
 second-of-both rs more some e = by-silence rs (silent-if-0 rs some e)
   where
-    by-silence : (rs : List Rule) → Silent rs → numberOf (rs ++ more) ≡ numberOf more
+    by-silence : (rs : List Rule) → Silent rs → firstNumber (rs ++ more) ≡ firstNumber more
     by-silence [] s = refl
     by-silence (r ∷ rs) s = rw (s .0) (by-silence rs (s .1))
 
-pub number-of-both : (rs more : List Rule) → Numbered rs → cond (not (eqb (numberOf rs) 0)) (numberOf rs) (numberOf more) ≡ numberOf (rs ++ more)
-number-of-both rs more some = by-test (eqb (numberOf rs) 0) refl
+pub number-of-both : (rs more : List Rule) → Numbered rs → cond (not (eqb (firstNumber rs) 0)) (firstNumber rs) (firstNumber more) ≡ firstNumber (rs ++ more)
+number-of-both rs more some = by-test (eqb (firstNumber rs) 0) refl
   where
-    by-test : (t : Bool) → eqb (numberOf rs) 0 ≡ t → cond (not (eqb (numberOf rs) 0)) (numberOf rs) (numberOf more) ≡ numberOf (rs ++ more)
-    by-test true p = rw p (sym (second-of-both rs more some (eqb-true (numberOf rs) 0 p)))
-    by-test false p = rw p (sym (first-of-both rs more (numberOf rs) refl (eqb-false (numberOf rs) 0 p)))
+    by-test : (t : Bool) → eqb (firstNumber rs) 0 ≡ t → cond (not (eqb (firstNumber rs) 0)) (firstNumber rs) (firstNumber more) ≡ firstNumber (rs ++ more)
+    by-test true p = rw p (sym (second-of-both rs more some (eqb-true (firstNumber rs) 0 p)))
+    by-test false p = rw p (sym (first-of-both rs more (firstNumber rs) refl (eqb-false (firstNumber rs) 0 p)))
 
 -- ---- which number is given
 

@@ -1,7 +1,7 @@
 -- 01, "Numbers given back": "Order within a call is left to right; the first that applies is given, and none otherwise. The answer is
 -- then that number alone, and the record and all lent bytes are as before."
 -- What any call answers and leaves behind is stated by these, whatever enum the code has for its answer: each such enum has a definition
--- that begins with `said` and gives its cases as an `Answer`.
+-- that begins with `saidAnswer` and gives its cases as an `Answer`.
 -- Assumes nothing.
 use Prim.Native.Nat.{ℕ}
 use mathlib.Core.Bool.{Bool, true, false, cond}
@@ -37,6 +37,6 @@ leaves [] before after = after
 leaves (r ∷ rs) before after = cond (r .applies) before (leaves rs before after)
 
 -- "the first that applies is given, and none otherwise": its number, or 0, which no rule has. Code finds it, one rule before the rest
-unfoldable pub numberOf : List Rule → ℕ
-numberOf [] = 0
-numberOf (r ∷ rs) = cond (r .applies) (r .number) (numberOf rs)
+unfoldable pub firstNumber : List Rule → ℕ
+firstNumber [] = 0
+firstNumber (r ∷ rs) = cond (r .applies) (r .number) (firstNumber rs)

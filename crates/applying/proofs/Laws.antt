@@ -1,4 +1,4 @@
--- Laws of `laid`, `wentOf` and `Applies` (specs/Applying.antt).
+-- Laws of `laid`, `wentOf` and `AppliesEntries` (specs/Applying.antt).
 --   Every                                      what holds of every entry of a list
 --   laid-length, laid-append                   the array keeps its length; entries laid after others are laid on what those left
 --   laid-kept, laid-every                      a place that no entry goes to keeps what it had; what holds of a place and of every value laid holds after
@@ -25,7 +25,7 @@ use Rattle.cells.proofs.Laws.{place-kept, place-length}
 use Rattle.layout.specs.declared.Entry.{Entry}
 use Rattle.layout.specs.Layout.{entryOf, entriesOf}
 use Rattle.sheet.specs.Reading.{entryAt}
-use Rattle.applying.specs.Applying.{goes, laid, kindOn, dayOn, wentOf, entriesIn, Applies}
+use Rattle.applying.specs.Applying.{goes, laid, kindOn, dayOn, wentOf, entriesIn, AppliesEntries}
 
 -- ---- what holds of every entry
 
@@ -171,7 +171,7 @@ module _ (causal : Bool) (pkind s : List ℕ) (count : ℕ) (kind₀ : List ℕ)
                 ∙ ap (λ (l : List ℤ). laid on-shelf dayOn l (rest s count (i + 1))) (sym y);
           }
 
-    pub gone-ended : 6 * count + 12 ≤ length s → count ≤ i → Applies causal pkind (entriesIn s count) kind₀ day₀ went kind day
+    pub gone-ended : 6 * count + 12 ≤ length s → count ≤ i → AppliesEntries causal pkind (entriesIn s count) kind₀ day₀ went kind day
     unfolding laid wentOf
     gone-ended room h =
         let none : count - i ≡ 0 = omega arith in
@@ -182,7 +182,7 @@ module _ (causal : Bool) (pkind s : List ℕ) (count : ℕ) (kind₀ : List ℕ)
           days = sym (so .days ∙ rw none);
         })
 
-  pub gone-none : length s < 6 * count + 12 → Applies causal pkind (entriesIn s count) kind₀ day₀ 0 kind₀ day₀
+  pub gone-none : length s < 6 * count + 12 → AppliesEntries causal pkind (entriesIn s count) kind₀ day₀ 0 kind₀ day₀
   unfolding laid wentOf
   gone-none h = rw (lt-leb (6 * count + 12) (length s) h) (record { went = refl; kinds = refl; days = refl })
 

@@ -41,7 +41,7 @@ abbrev pub entriesIn : List ℕ → ℕ → List Entry
 entriesIn s n = cond (leb (6 * n + 12) (length s)) (entriesOf n s) []
 
 -- a call that found a shelf of `kind` and `day`, left it as `kind′` and `day′`, and answered r
-pub record Applies (causal : Bool) (pkind : List ℕ) (es : List Entry) (kind : List ℕ) (day : List ℤ) (r : ℕ) (kind′ : List ℕ) (day′ : List ℤ) : Type 0 where
+pub record AppliesEntries (causal : Bool) (pkind : List ℕ) (es : List Entry) (kind : List ℕ) (day : List ℤ) (r : ℕ) (kind′ : List ℕ) (day′ : List ℤ) : Type 0 where
   pub went : r ≡ wentOf (goes causal pkind) es
   pub kinds : kind′ ≡ laid (goes causal pkind) kindOn kind es
   pub days : day′ ≡ laid (goes causal pkind) dayOn day es

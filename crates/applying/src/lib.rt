@@ -3,7 +3,7 @@
 //
 // The entries are read where the sheet lies; the shelf's two arrays are lent.
 ghost use mathlib.Core.Path.{_≡_};
-ghost use Rattle.applying.specs.Applying.{goes, entriesIn, Applies};
+ghost use Rattle.applying.specs.Applying.{goes, entriesIn, AppliesEntries};
 use layout::Entry;
 
 // Whether an entry of this cell goes to the shelf.
@@ -24,7 +24,7 @@ pub fn apply(
     s: &[u8],
     count: u8,
 ) -> u8
-    ensures { λ r. ⌜ Applies causal (now (pkind .entry)) (entriesIn (now (s .entry)) count) (now (kind .entry)) (now (day .entry)) r (now (kind .exit)) (now (day .exit)) ⌝ }
+    ensures { λ r. ⌜ AppliesEntries causal (now (pkind .entry)) (entriesIn (now (s .entry)) count) (now (kind .entry)) (now (day .entry)) r (now (kind .exit)) (now (day .exit)) ⌝ }
 {
     let mut went: u8 = 0;
     if s.len() < 6 * (count as usize) + 12 {

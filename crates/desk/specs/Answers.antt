@@ -28,16 +28,16 @@ pub data Value : Type 0 where
   taken : (turn entries applied : ℕ) (waited : Option Content) → Value
 
 -- what each case of the code's enum says
-abbrev pub said : declared.Answer → Answer Value
-said answers.Opened = answered opened
-said answers.Stored = answered stored
-said (answers.Holds c) = answered (holds c)
-said answers.Waits = answered waits
-said (answers.Sent t n) = answered (sent t n)
-said answers.Held = answered held
-said (answers.Taken t n k) = answered (taken t n k none)
-said (answers.TakenAndRead t n k c) = answered (taken t n k (some c))
-said (answers.Refused k) = refused k
+abbrev pub saidAnswer : declared.Answer → Answer Value
+saidAnswer answers.Opened = answered opened
+saidAnswer answers.Stored = answered stored
+saidAnswer (answers.Holds c) = answered (holds c)
+saidAnswer answers.Waits = answered waits
+saidAnswer (answers.Sent t n) = answered (sent t n)
+saidAnswer answers.Held = answered held
+saidAnswer (answers.Taken t n k) = answered (taken t n k none)
+saidAnswer (answers.TakenAndRead t n k c) = answered (taken t n k (some c))
+saidAnswer (answers.Refused k) = refused k
 
 -- all that a call settles: `lent` are the bytes of the buffer or the tray that it was lent, afterwards; none, for a call that is lent none
 pub record Done : Type 0 where
@@ -47,7 +47,7 @@ pub record Done : Type 0 where
 
 -- what an outcome of the code comes to, with the lent bytes as they are when the call returns
 abbrev pub outcome : Outcome → List ℕ → Done
-outcome o lent = record { answer = said (o .answer); desk = o .desk; lent = lent }
+outcome o lent = record { answer = saidAnswer (o .answer); desk = o .desk; lent = lent }
 
 -- a call with these rules, in 01's order, on a record and lent bytes: "the first that applies is given, and none otherwise. The answer is
 -- then that number alone, and the record and all lent bytes are as before." Where none applies, the value, the next record and the lent

@@ -1,6 +1,7 @@
 -- 01, "A desk, call by call", and the table of "Numbers given back": a definition for each call, which gives its answer, the next record
--- and the lent bytes for every input. crates/refusals/specs/Rules.antt has the rules of each call, crates/pending/specs/Pending.antt
--- that of a buffer, 11.
+-- and the lent bytes for every input. `openRules` to `takeRules` are each call's rules, whole and in 01's order; they are made of what can be
+-- tested in one place (`openTests` and the others, crates/refusals/specs/Rules.antt), of 13 and of that of a buffer, 11
+-- (crates/pending/specs/Pending.antt).
 -- Assumes nothing.
 use Prim.Native.Nat.{ℕ, _+_}
 use mathlib.Core.Bool.{Bool, true, cond, not, _&&_}
@@ -22,8 +23,7 @@ use Rattle.sound.specs.Sound.{soundOf}
 use Rattle.tray.specs.Tray.{free, sheetAt, heldIn, clearedIn}
 use Rattle.pending.specs.Pending.{pendingEntries, sheetOf, roomRules}
 use Rattle.applying.specs.Applying.{goes, laid, kindOn, dayOn, wentOf}
-use Rattle.refusals.specs.Rules.{trayRules, sheetRules, turnRules, placeRules}
-use Rattle.refusals.specs.Rules as rules
+use Rattle.refusals.specs.Rules.{openTests, writeTests, readTests, sendTests, trayTests, sheetTests, turnTests, placeTests}
 use Rattle.desk.specs.declared.Desk.{Desk}
 use Rattle.desk.specs.Answers.{opened, stored, holds, waits, sent, held, taken, Done, call}
 
@@ -35,7 +35,7 @@ sound d = soundOf (d .head) (d .kind) (d .day) (d .pkind) (d .pday)
 
 -- "Open: 1, 2, 3, 4."
 abbrev pub openRules : ℕ → ℕ → ℕ → ℕ → List Rule
-openRules n m own mode = rules.openRules n m own mode
+openRules n m own mode = openTests n m own mode
 
 -- "Mode 0 means the default: causal."
 abbrev pub modeFor : ℕ → ℕ
@@ -65,7 +65,7 @@ openOf n m own mode =
 
 -- "Write: 5, 6, 7, 8."
 abbrev pub writeRules : Desk → ℕ → Content → List Rule
-writeRules d cell c = rules.writeRules (sound d) (d .head) cell (kindOf c)
+writeRules d cell c = writeTests (sound d) (d .head) cell (kindOf c)
 
 -- "The cell takes the content; the content becomes that cell's pending entry, replacing an earlier one."
 abbrev pub writtenDesk : Desk → ℕ → Content → Desk
@@ -85,7 +85,7 @@ writeOf d cell c = call (writeRules d cell c) d [] stored (writtenDesk d cell c)
 
 -- "Read: 5, 6, 8."
 abbrev pub readRules : Desk → ℕ → List Rule
-readRules d cell = rules.readRules (sound d) (d .head) cell
+readRules d cell = readTests (sound d) (d .head) cell
 
 -- "It waits exactly if the mode is sequential, something is pending, this cell is not, and the turn is elsewhere."
 unfoldable pub mustWait : Desk → ℕ → Bool
@@ -115,7 +115,7 @@ readOf d cell =
 
 -- "Send: 5, 9, 10, 11."
 abbrev pub sendRules : Desk → List ℕ → List Rule
-sendRules d buf = rules.sendRules (sound d) (d .head) ++ roomRules (sheetOf (d .head) (d .pkind) (d .pday)) buf
+sendRules d buf = sendTests (sound d) (d .head) ++ roomRules (sheetOf (d .head) (d .pkind) (d .pday)) buf
 
 -- the head with the next turn number and this waiting read
 abbrev pub nextHead : Head → ℕ → Head
@@ -148,7 +148,7 @@ abbrev pub deliverRules : Desk → List ℕ → List ℕ → List Rule
 deliverRules d tray s =
     let h = d .head in
     let x = numbersOf (trailerIn s) in
-    trayRules (sound d) h (length tray) ++ 13 if not (good s) ∷ sheetRules h x (free tray (x .sender))
+    trayTests (sound d) h (length tray) ++ 13 if not (good s) ∷ sheetTests h x (free tray (x .sender))
 
 -- "Puts a sheet in the sender's place in the lent tray. The record stays."
 unfoldable pub deliverOf : Desk → List ℕ → List ℕ → Done
@@ -160,7 +160,7 @@ deliverOf d tray s = call (deliverRules d tray s) d tray held d (heldIn tray (tr
 abbrev pub takeRules : Desk → List ℕ → List Rule
 takeRules d tray =
     let h = d .head in
-    trayRules (sound d) h (length tray) ++ turnRules h ++ placeRules h tray (turnDesk h)
+    trayTests (sound d) h (length tray) ++ turnTests h ++ placeTests h tray (turnDesk h)
 
 -- "Takes the sheet of the desk whose turn it is": the entries of the sheet in that desk's place
 abbrev pub entriesTaken : Desk → List ℕ → List Entry
@@ -197,3 +197,27 @@ takeOf d tray =
     (taken (h .turn) (length es) (wentOf (goes (causal h) (d .pkind)) es) (waitedFor h after))
     after
     (clearedIn tray (turnDesk h))
+
+-- ---- the six calls
+
+-- a definition for each call: its answer, the next record and the lent bytes, from the record and what it is given. What is demanded of a desk is
+-- stated of any such calls (crates/figure/specs/Demand2.antt, crates/runs/specs/TurnRules.antt), so that it can be shown false of wrong ones
+pub record Calls : Type 0 where
+  pub opening : (n m own mode : ℕ) → Done
+  pub write : Desk → ℕ → Content → Done
+  pub read : Desk → ℕ → Done
+  pub send : Desk → List ℕ → Done
+  pub deliver : Desk → List ℕ → List ℕ → Done
+  pub take : Desk → List ℕ → Done
+
+-- document 01's: the definitions above, which the code's contracts cite
+abbrev pub document01 : Calls
+document01 =
+    record {
+      opening = openOf;
+      write = writeOf;
+      read = readOf;
+      send = sendOf;
+      deliver = deliverOf;
+      take = takeOf;
+    }

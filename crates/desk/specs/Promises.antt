@@ -3,8 +3,8 @@
 -- Assumes nothing.
 use mathlib.Core.Path.{_≡_}
 use Rattle.desk.specs.declared.Answer.{Answer}
-use Rattle.desk.specs.Answers.{said}
+use Rattle.desk.specs.Answers.{saidAnswer}
 
 -- two different answers never say the same
 abbrev pub AnswersApart : Type 0
-AnswersApart = (a b : Answer) → said a ≡ said b → a ≡ b
+AnswersApart = (a b : Answer) → saidAnswer a ≡ saidAnswer b → a ≡ b

@@ -28,7 +28,7 @@ pub struct Desk {
     pub pday: [i32; 64],
 }
 
-// What a call answers: one shape for all calls. `said` (specs/Answers.antt) gives 01's numbers and
+// What a call answers: one shape for all calls. `saidAnswer` (specs/Answers.antt) gives 01's numbers and
 // values for each case.
 pub enum Answer {
     Opened,

@@ -4,8 +4,8 @@ ghost use mathlib.Core.Path.{_≡_};
 ghost use Prim.Native.Nat.{_+_, _<_, _≤_};
 ghost use lib.ListN.{length, drop};
 ghost use Rattle.sound.specs.Head.{causal, waitCell};
-ghost use Rattle.tray.specs.Tray.{start};
-ghost use Rattle.applying.specs.Applying.{entriesIn, Applies};
+ghost use Rattle.tray.specs.Tray.{placeStart};
+ghost use Rattle.applying.specs.Applying.{entriesIn, AppliesEntries};
 ghost use Rattle.desk.specs.Calls.{modeFor, nextHead, readEnds};
 ghost use Rattle.desk.specs.Parts.{given, openedHead, waitsFor, waitAt, readAnswer, heldIf, takenAnswer};
 use crate::Answer;
@@ -167,8 +167,8 @@ pub(crate) fn apply_from(
     q: u8,
     entries: u8,
 ) -> u8
-    requires { ⌜ start q + 2 ≤ length (now tray) ⌝ }
-    ensures { λ r. ⌜ Applies (causal h) (now (pkind .entry)) (entriesIn (drop (start q + 2) (now (tray .entry))) entries) (now (kind .entry)) (now (day .entry)) r (now (kind .exit)) (now (day .exit)) ⌝ }
+    requires { ⌜ placeStart q + 2 ≤ length (now tray) ⌝ }
+    ensures { λ r. ⌜ AppliesEntries (causal h) (now (pkind .entry)) (entriesIn (drop (placeStart q + 2) (now (tray .entry))) entries) (now (kind .entry)) (now (day .entry)) r (now (kind .exit)) (now (day .exit)) ⌝ }
 {
     let at = 398 * (q as usize) + 2;
     applying::apply(h.mode == 2, kind, day, pkind, &tray[at..], entries)

@@ -16,7 +16,7 @@ use Rattle.desk.specs.Answers.{waits, held}
 use Rattle.desk.specs.Calls.{readRules, mustWait, readOf, deliverRules, deliverOf}
 use Rattle.desk.proofs.Laws.Allowed.{desk-says, read-allows, deliver-allows}
 use Rattle.edges.specs.Examples.{ofThree, AlwaysAndOnly}
-use Rattle.edges.proofs.WrongDesks.{read-as-said, waits-is-no-content}
+use Rattle.edges.proofs.Slips.{read-as-said, waits-is-no-content}
 
 -- on its own turn a desk's read is answered at once
 own-turn-answers : (d : Desk) (i : ℕ) → ownTurn (d .head) ≡ true → mustWait d i ≡ false

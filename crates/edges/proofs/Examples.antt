@@ -11,10 +11,10 @@ use Rattle.tray.specs.Tray.{holdsGood, heldIn, clearedIn}
 use Rattle.pending.specs.Pending.{pendingBelow, sheetOf}
 use Rattle.applying.specs.Applying.{laid, wentOf}
 use Rattle.desk.specs.Calls.{openOf, writeOf, mustWait, readOf, sendOf, deliverOf, takeOf}
-use Rattle.edges.specs.Examples.{opened, wrote, sends, delivers, takes, sentBy, cellAfter, takesNine, ofThree, deliveredAt4, cases, ExamplesHold}
+use Rattle.edges.specs.Examples.{openedDesk, writtenTo, sentInto, deliveredTo, takenFrom, sentBy, cellAfter, takesNine, ofThree, deliveredAt4, cases, ExamplesHold}
 
 pub examples-hold : ExamplesHold
-unfolding cases opened wrote sends delivers takes sentBy cellAfter takesNine ofThree deliveredAt4
+unfolding cases openedDesk writtenTo sentInto deliveredTo takenFrom sentBy cellAfter takesNine ofThree deliveredAt4
     openOf writeOf mustWait readOf sendOf deliverOf takeOf
     soundOf placeAt each anywhere putIf sheetOf pendingBelow laid wentOf holdsGood heldIn clearedIn laidOver good
     before lengthIn yearLength isDate daysTo numberOf dayNumberOf

@@ -1,3 +1,3 @@
 pub mod Examples
 pub mod AlwaysAndOnly
-pub mod WrongDesks
+pub mod Slips

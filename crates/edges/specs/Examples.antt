@@ -23,47 +23,47 @@ use Rattle.desk.specs.Calls.{openOf, writeOf, readOf, sendOf, deliverOf, takeOf
 
 -- what the examples speak of: bytes; a standing; a day; a call's answer, alone, with the buffer after it, or with what a cell then holds
 -- on the shelf and as a pending entry
-pub data Value : Type 0 where
-  bytes : List ℕ → Value
-  standing : Stands → Value
-  day : Answer ℤ → Value
-  call : Answer desk.Value → Value
-  sheet : Answer desk.Value → List ℕ → Value
-  cell : Answer desk.Value → (shelf pending : Content) → Value
+pub data Shown : Type 0 where
+  bytes : List ℕ → Shown
+  standing : Stands → Shown
+  day : Answer ℤ → Shown
+  call : Answer desk.Value → Shown
+  sheet : Answer desk.Value → List ℕ → Shown
+  cell : Answer desk.Value → (shelf pending : Content) → Shown
 
 -- an example: its number in 01, what the definitions make, and what 01 says
 pub record Case : Type 0 where
   pub example : ℕ
-  pub made : Value
-  pub says : Value
+  pub made : Shown
+  pub says : Shown
 
 -- ---- calls in a row
 
 -- desk `own` of n desks, m cells, opened in a mode: 0 the default, 1 sequential, 2 causal, 3 cache
-unfoldable pub opened : (n m own mode : ℕ) → Desk
-opened n m own mode = openOf n m own mode .desk
+unfoldable pub openedDesk : (n m own mode : ℕ) → Desk
+openedDesk n m own mode = openOf n m own mode .desk
 
 -- the desk after a write
-unfoldable pub wrote : Desk → ℕ → Content → Desk
-wrote d i c = writeOf d i c .desk
+unfoldable pub writtenTo : Desk → ℕ → Content → Desk
+writtenTo d i c = writeOf d i c .desk
 
 -- a send into a buffer of so many sevens
-unfoldable pub sends : Desk → ℕ → Done
-sends d room = sendOf d (replicate room 7)
+unfoldable pub sentInto : Desk → ℕ → Done
+sentInto d room = sendOf d (replicate room 7)
 
 -- a sheet delivered into a tray of zeros; and then taken
-unfoldable pub delivers : Desk → List ℕ → Done
-delivers d s = deliverOf d (replicate (398 * d .head .n) 0) s
+unfoldable pub deliveredTo : Desk → List ℕ → Done
+deliveredTo d s = deliverOf d (replicate (398 * d .head .n) 0) s
 
-unfoldable pub takes : Desk → List ℕ → Done
-takes d s = let done = delivers d s in takeOf (done .desk) (done .lent)
+unfoldable pub takenFrom : Desk → List ℕ → Done
+takenFrom d s = let done = deliveredTo d s in takeOf (done .desk) (done .lent)
 
 -- ---- what the examples look at
 
-unfoldable pub sentBy : Done → Value
+unfoldable pub sentBy : Done → Shown
 sentBy done = sheet (done .answer) (done .lent)
 
-unfoldable pub cellAfter : ℕ → Done → Value
+unfoldable pub cellAfter : ℕ → Done → Shown
 cellAfter i done =
     let d = done .desk in
     cell (done .answer) (contentAt (d .kind) (d .day) i) (contentAt (d .pkind) (d .pday) i)
@@ -71,16 +71,16 @@ cellAfter i done =
 -- example 4, in a mode: desk 1 of 2, 2 cells, has day 5 pending in cell 0, and takes desk 0's sheet with day 9 in that cell
 unfoldable pub takesNine : ℕ → Done
 takesNine mode =
-    let nine = sends (wrote (opened 2 2 0 mode) 0 (Day (pos 9))) 18 .lent in
-    takes (wrote (opened 2 2 1 mode) 0 (Day (pos 5))) nine
+    let nine = sentInto (writtenTo (openedDesk 2 2 0 mode) 0 (Day (pos 9))) 18 .lent in
+    takenFrom (writtenTo (openedDesk 2 2 1 mode) 0 (Day (pos 5))) nine
 
 -- example 6: desk `own` of 3, 1 cell, sequential, blank, at a turn number
 unfoldable pub ofThree : (own turn : ℕ) → Desk
 ofThree own turn = blankDesk (record { n = 3; m = 1; own = own; mode = 1; turn = turn; wait = 0 })
 
 -- desk 1 at turn number 4 is delivered desk 0's sheet of this turn number
-unfoldable pub deliveredAt4 : ℕ → Value
-deliveredAt4 turn = call (delivers (ofThree 1 4) (sends (ofThree 0 turn) 12 .lent) .answer)
+unfoldable pub deliveredAt4 : ℕ → Shown
+deliveredAt4 turn = call (deliveredTo (ofThree 1 4) (sentInto (ofThree 0 turn) 12 .lent) .answer)
 
 abbrev pub dateOf2000 : ℕ → ℕ → Date
 dateOf2000 m d = record { year = 2000; month = m; day = d }
@@ -92,13 +92,13 @@ cases =
     -- "Desk 0 of 2, 2 cells, sends day 0 in cell 1 at turn 0: `01 02 00 00 00 00 06 00 01 00 02 02 00 00 00 00 00 00`." (In the default mode.)
     record {
       example = 1;
-      made = sentBy (sends (wrote (opened 2 2 0 0) 1 (Day (pos 0))) 18);
+      made = sentBy (sentInto (writtenTo (openedDesk 2 2 0 0) 1 (Day (pos 0))) 18);
       says = sheet (answered (sent 0 1)) (0x01 ∷ 0x02 ∷ 0x00 ∷ 0x00 ∷ 0x00 ∷ 0x00 ∷ 0x06 ∷ 0x00 ∷ 0x01 ∷ 0x00 ∷ 0x02 ∷ 0x02 ∷ 0x00 ∷ 0x00 ∷ 0x00 ∷ 0x00 ∷ 0x00 ∷ 0x00 ∷ []);
     }
     -- "Nothing pending there: `00 00 00 00 02 02 00 00 00 00 00 00`."
     ∷ record {
       example = 2;
-      made = sentBy (sends (opened 2 2 0 0) 12);
+      made = sentBy (sentInto (openedDesk 2 2 0 0) 12);
       says = sheet (answered (sent 0 0)) (0x00 ∷ 0x00 ∷ 0x00 ∷ 0x00 ∷ 0x02 ∷ 0x02 ∷ 0x00 ∷ 0x00 ∷ 0x00 ∷ 0x00 ∷ 0x00 ∷ 0x00 ∷ []);
     }
     -- "Day -1 is `FF FF FF FF`."
@@ -109,7 +109,7 @@ cases =
     ∷ record { example = 4; made = cellAfter 0 (takesNine 1); says = cell (answered (taken 0 1 0 none)) (Day (pos 5)) (Day (pos 5)) }
     ∷ record { example = 4; made = cellAfter 0 (takesNine 3); says = cell (answered (taken 0 1 0 none)) (Day (pos 5)) (Day (pos 5)) }
     -- "One desk, sequential, another cell pending: a read answers at once, the turn is always its own."
-    ∷ record { example = 5; made = call (readOf (wrote (opened 1 2 0 1) 0 (Day (pos 5))) 1 .answer); says = call (answered (holds Blank)) }
+    ∷ record { example = 5; made = call (readOf (writtenTo (openedDesk 1 2 0 1) 0 (Day (pos 5))) 1 .answer); says = call (answered (holds Blank)) }
     -- "n = 3, turn number 4: from desk 0 only number 6 may be delivered; 3 gets 16, 9 gets 17."
     ∷ record { example = 6; made = deliveredAt4 6; says = call (answered held) }
     ∷ record { example = 6; made = deliveredAt4 3; says = call (refused 16) }

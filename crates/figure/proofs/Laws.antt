@@ -1,3 +1,4 @@
+pub mod ByRules
 pub mod Maps
 pub mod Writes
 pub mod Reads
@@ -7,5 +8,5 @@ pub mod Agree
 pub mod Takes
 pub mod Delivers
 pub mod Sends
-pub mod Ruled
-pub mod Settled
+pub mod OneEnd
+pub mod SameRecord

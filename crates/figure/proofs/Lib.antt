@@ -1,2 +1,3 @@
 pub mod Laws
-pub mod EveryCall
+pub mod Demand2
+pub mod Settled

@@ -48,7 +48,7 @@ pub data Event (A : Type 0) : Type 0 where
   reads : (x : ℕ) (v : A) → Event A
   blocks : (x : ℕ) → Event A
   broadcasts : (updates : Updates A) → Event A
-  applies : (q : ℕ) (updates : Updates A) (extracted assigned : ℕ) → Event A
+  applies-updates : (q : ℕ) (updates : Updates A) (extracted assigned : ℕ) → Event A
 
 -- "Initialization:: turn_p ← 0; updates_p ← ∅"; no read is blocked, and nothing was received
 abbrev pub initial : {A : Type 0} → (ℕ → A) → Process A
@@ -106,5 +106,5 @@ module _ {A : Type 0} (n p : ℕ) (model : Model) where
     -- process p"
     apply : (s : Process A) (q : ℕ) (updates : Updates A) {k j : ℕ} {after : ℕ → A} → s .turn ≡ q → p ≢ q → s .buffer q ≡ some updates
         → Loop (s .updates) updates (s .copy) k j after
-        → Step s (applies q updates k j)
+        → Step s (applies-updates q updates k j)
         (record { copy = after; updates = s .updates; turn = nextTurn n (s .turn); blocked = s .blocked; buffer = without q (s .buffer) })

@@ -1,3 +1,4 @@
 pub mod Figure1
 pub mod Map
-pub mod Promises
+pub mod Demand2
+pub mod Settled

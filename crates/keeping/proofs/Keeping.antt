@@ -1,13 +1,14 @@
--- What specs/Promises.antt states, from the laws of each call (proofs/Laws).
+-- What specs/Promises.antt states, and what proofs/Laws/Kept.antt does, from the laws of each call (proofs/Laws).
+--   sends-fit : SendsFit, lent-stays-long : LentStaysLong          the bytes that are lent to a call
 --   open-is-sound : OpenIsSound, keeps-sound : KeepsSound          a record is sound from its open on
 --   keeps-fits : KeepsFits                                         and fits
---   sends-fit : SendsFit, lent-stays-long : LentStaysLong          the bytes that are lent to a call
 --   numbers-stay : NumbersStay                                     n, m, own number and mode stay; the turn number goes up by 1 or stays
 -- Assumes nothing.
 use mathlib.Core.Path.{sym, ap, _∙_, subst}
 use Rattle.desk.specs.Calls.{sound}
 use Rattle.desk.specs.Values.{DeskFits}
-use Rattle.keeping.specs.Promises.{OpenIsSound, KeepsSound, KeepsFits, SendsFit, LentStaysLong, NumbersStay}
+use Rattle.keeping.specs.Promises.{SendsFit, LentStaysLong}
+use Rattle.keeping.proofs.Laws.Kept.{OpenIsSound, KeepsSound, KeepsFits, NumbersStay}
 use Rattle.keeping.proofs.Laws.Open.{open-sound, open-fits}
 use Rattle.keeping.proofs.Laws.Write.{write-sound, write-fits}
 use Rattle.keeping.proofs.Laws.Read.{read-sound, read-fits}

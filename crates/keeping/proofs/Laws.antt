@@ -1,3 +1,4 @@
+pub mod Kept
 pub mod Rules
 pub mod Places
 pub mod Open

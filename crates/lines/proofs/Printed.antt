@@ -20,7 +20,7 @@ use Rattle.desk.specs.Answers.{Value, opened, stored, holds, waits, sent, held,
 use Rattle.text.specs.Text.{text}
 use Rattle.text.specs.Separated.{parts, space}
 use Rattle.text.specs.Decimal.{value, decimal, signedDecimal}
-use Rattle.schedule.specs.Words.{is, contentIn}
+use Rattle.schedule.specs.Words.{is, contentOfWord}
 use Rattle.printing.specs.Printing.{contentText, answerText}
 use Rattle.lines.specs.Line.{spaced}
 use Rattle.lines.specs.Printed.{Of32Bits, AnswerFits, NeverAlike, ContentsPrintedApart, AnswersPrintedApart}
@@ -31,7 +31,7 @@ use Rattle.lines.proofs.Words.{all-free, words-spaced, number-back, num
 contentBack : List (List ℕ) → Content
 contentBack [] = Blank
 contentBack (w ∷ []) = cond (is "open" w) Open Blank
-contentBack (w ∷ d ∷ ws) = contentIn d
+contentBack (w ∷ d ∷ ws) = contentOfWord d
 
 waitedBack : List (List ℕ) → Option Content
 waitedBack [] = none

@@ -4,22 +4,22 @@
 use mathlib.Core.Path.{refl}
 use Rattle.text.specs.Separated.{parts}
 use Rattle.text.specs.Decimal.{isDecimal, valueFrom, value}
-use Rattle.schedule.specs.Words.{is, isNumber, isDesk, isDay, dayIn, isContent, contentIn}
+use Rattle.schedule.specs.Words.{is, isNumber, isDesk, isDayWord, dayOfWord, isContentWord, contentOfWord}
 use Rattle.schedule.specs.Start.{modeIn, startIn}
 use Rattle.schedule.specs.Step.{stepIn}
 use Rattle.lines.specs.Samples.{EachForm, AtTheEdges, OtherForms, OtherStarts}
 
 pub each-form-reads : EachForm
-unfolding parts isDecimal valueFrom value is isNumber isDesk isDay dayIn isContent contentIn modeIn startIn stepIn
+unfolding parts isDecimal valueFrom value is isNumber isDesk isDayWord dayOfWord isContentWord contentOfWord modeIn startIn stepIn
 each-form-reads = record { start = refl; step-1 = refl; step-2 = refl; step-4 = refl; step-5 = refl; step-6 = refl; step-8 = refl }
 
 pub edges-read : AtTheEdges
-unfolding parts isDecimal valueFrom value is isNumber isDesk isDay dayIn isContent contentIn modeIn startIn stepIn
+unfolding parts isDecimal valueFrom value is isNumber isDesk isDayWord dayOfWord isContentWord contentOfWord modeIn startIn stepIn
 edges-read =
     record { greatest-cell = refl; greatest-day = refl; least-day = refl; greatest-start = refl; least-start = refl; default-mode = refl }
 
 pub other-forms : OtherForms
-unfolding parts isDecimal valueFrom value is isNumber isDesk isDay dayIn isContent contentIn stepIn
+unfolding parts isDecimal valueFrom value is isNumber isDesk isDayWord dayOfWord isContentWord contentOfWord stepIn
 other-forms =
     record {
       nothing-at-all = refl;

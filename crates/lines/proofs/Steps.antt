@@ -15,7 +15,7 @@ use Rattle.text.specs.Text.{text}
 use Rattle.text.specs.Decimal.{value, decimal}
 use Rattle.text.proofs.Laws.Decimal.{and-split}
 use Rattle.schedule.specs.Lines.{Line, ended, cut}
-use Rattle.schedule.specs.Words.{words, is, isNumber, isDesk, isContent, contentIn}
+use Rattle.schedule.specs.Words.{words, is, isNumber, isDesk, isContentWord, contentOfWord}
 use Rattle.content.specs.declared.Content.{Content}
 use Rattle.schedule.specs.Step.{Act, writes, reads, sends, delivers, takes, Step, writeIn, readIn, deliverIn, deskIn, stepOf, stepIn}
 use Rattle.lines.specs.Line.{spaced, contentWord, wordsBy, stepLine}
@@ -42,9 +42,9 @@ module _ (n : ℕ) (step : Step) (l : List ℕ) where
   write-tells w (p ∷ []) e = nothing _ e
   write-tells w (p ∷ cell ∷ []) e = nothing _ e
   write-tells w (p ∷ cell ∷ c ∷ []) e =
-      if-so _ (isDesk n p && (isNumber cell && isContent c)) (record { desk = value p; act = writes (value cell) (contentIn c) }) (λ t.
-      let parts = and-split (isDesk n p) (isNumber cell && isContent c) t in
-      let others = and-split (isNumber cell) (isContent c) (parts .1) in
+      if-so _ (isDesk n p && (isNumber cell && isContentWord c)) (record { desk = value p; act = writes (value cell) (contentOfWord c) }) (λ t.
+      let parts = and-split (isDesk n p) (isNumber cell && isContentWord c) t in
+      let others = and-split (isNumber cell) (isContentWord c) (parts .1) in
       let content = content-read c (others .1) in
       record {
         in-range =
@@ -53,7 +53,7 @@ module _ (n : ℕ) (step : Step) (l : List ℕ) where
               sender = λ q s. apart (cc);
               cell-written = λ k x s. let same : value cell ≡ k = cc in omega (arith, number-most cell (others .0));
               cell-read = λ k s. apart (cc);
-              day = λ k x s. let same : contentIn c ≡ x = cc in rw same at (content .fits);
+              day = λ k x s. let same : contentOfWord c ≡ x = cc in rw same at (content .fits);
               not-blank = λ k x s b. content .not-blank (cc);
             };
         words-are = cc (word-is "w" l w, desk-word n p (parts .0), number-word cell (others .0), content .written);

@@ -30,7 +30,7 @@ use Rattle.text.specs.Decimal.{isDigit, digits, isDecimal, value, decimal, noLe
 use Rattle.text.specs.Promises.{ReadsBack}
 use Rattle.text.proofs.Laws.Decimal.{and-split, decimal-is}
 use Rattle.text.proofs.Laws.ReadBack.{printed-reads-back, read-prints-back}
-use Rattle.schedule.specs.Words.{same, is, isNumber, isDesk, isDay, dayIn, isContent, contentIn}
+use Rattle.schedule.specs.Words.{same, is, isNumber, isDesk, isDayWord, dayOfWord, isContentWord, contentOfWord}
 use Rattle.lines.specs.Line.{spaced, contentWord}
 
 pub apart : {A : Type 0} → _≡_ {A = ℕ} 0 1 → A
@@ -169,11 +169,11 @@ module _ (k : ℕ) (small : k ≤ 4294967295) where
 -- ---- contents, read
 
 record DayRead (word : List ℕ) : Type 0 where
-  pub fits : SFits w32 (dayIn word)
-  pub written : word ≡ signedDecimal (dayIn word)
+  pub fits : SFits w32 (dayOfWord word)
+  pub written : word ≡ signedDecimal (dayOfWord word)
 
-day-read : (word : List ℕ) → isDay word ≡ true → DayRead word
-unfolding isDay dayIn
+day-read : (word : List ℕ) → isDayWord word ≡ true → DayRead word
+unfolding isDayWord dayOfWord
 day-read [] t = absurd (false≢true t)
 day-read (b ∷ bs) t = by-sign (eqb b minus) refl t
   where
@@ -198,12 +198,12 @@ day-read (b ∷ bs) t = by-sign (eqb b minus) refl t
         }
 
 pub record ContentRead (word : List ℕ) : Type 0 where
-  pub fits : SFits w32 (dayOf (contentIn word))
-  pub not-blank : contentIn word ≡ Blank → ⊥
-  pub written : word ≡ contentWord (contentIn word)
+  pub fits : SFits w32 (dayOf (contentOfWord word))
+  pub not-blank : contentOfWord word ≡ Blank → ⊥
+  pub written : word ≡ contentWord (contentOfWord word)
 
-pub content-read : (word : List ℕ) → isContent word ≡ true → ContentRead word
-unfolding isContent contentIn
+pub content-read : (word : List ℕ) → isContentWord word ≡ true → ContentRead word
+unfolding isContentWord contentOfWord
 content-read word t = by-open (is "open" word) refl
   where
     by-open : (o : Bool) → is "open" word ≡ o → ContentRead word
@@ -227,8 +227,8 @@ first-digit b bs t =
 
 -- it reads as this content, and has no spaces
 pub record ContentSaid (word : List ℕ) (c : Content) : Type 0 where
-  pub is-content : isContent word ≡ true
-  pub same-content : contentIn word ≡ c
+  pub is-content : isContentWord word ≡ true
+  pub same-content : contentOfWord word ≡ c
   pub without-spaces : free word ≡ true
 
 module _ (word : List ℕ) (t : isDecimal word ≡ true) where
@@ -236,7 +236,7 @@ module _ (word : List ℕ) (t : isDecimal word ≡ true) where
   decimal-free = digits-free word (and-split (noLeadingZero word) (digits word) (sym (decimal-is word) ∙ t) .1)
 
 plain-said : (word : List ℕ) → isDecimal word ≡ true → value word ≤ 2147483647 → ContentSaid word (Day (pos (value word)))
-unfolding isContent contentIn isDay dayIn is
+unfolding isContentWord contentOfWord isDayWord dayOfWord is
 plain-said [] t small = absurd (no-decimal t)
 plain-said (b ∷ bs) t small =
     let digit = first-digit b bs t in
@@ -249,7 +249,7 @@ plain-said (b ∷ bs) t small =
     }
 
 minus-said : (word : List ℕ) → isDecimal word ≡ true → 1 ≤ value word → value word ≤ 2147483648 → ContentSaid (45 ∷ word) (Day (negsuc (value word - 1)))
-unfolding isContent contentIn isDay dayIn is
+unfolding isContentWord contentOfWord isDayWord dayOfWord is
 minus-said word t least most =
     record {
       is-content = rw (t, le-leb 1 (value word) least, le-leb (value word) 2147483648 most);
@@ -258,7 +258,7 @@ minus-said word t least most =
     }
 
 open-said : ContentSaid (text "open") Open
-unfolding isContent contentIn is
+unfolding isContentWord contentOfWord is
 open-said = record { is-content = refl; same-content = refl; without-spaces = refl }
 
 day-said : (d : ℤ) → SFits w32 d → ContentSaid (signedDecimal d) (Day d)

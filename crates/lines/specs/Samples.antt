@@ -11,60 +11,60 @@ use Rattle.schedule.specs.Start.{Start, startIn}
 use Rattle.schedule.specs.Step.{writes, reads, sends, delivers, takes, Step, stepIn}
 use Rattle.text.specs.Text.{text}
 
-abbrev pub Says : String → Step → Type 0
-Says line step = stepIn 2 (ended (text line)) ≡ some step
+abbrev pub SaysStep : String → Step → Type 0
+SaysStep line step = stepIn 2 (ended (text line)) ≡ some step
 
-abbrev pub SaysNothing : String → Type 0
-SaysNothing line = stepIn 2 (ended (text line)) ≡ none
+abbrev pub SaysNoStep : String → Type 0
+SaysNoStep line = stepIn 2 (ended (text line)) ≡ none
 
-abbrev pub Starts : String → Start → Type 0
-Starts line x = startIn (ended (text line)) ≡ some x
+abbrev pub SaysStart : String → Start → Type 0
+SaysStart line x = startIn (ended (text line)) ≡ some x
 
-abbrev pub StartsNothing : String → Type 0
-StartsNothing line = startIn (ended (text line)) ≡ none
+abbrev pub SaysNoStart : String → Type 0
+SaysNoStart line = startIn (ended (text line)) ≡ none
 
 pub record EachForm : Type 0 where
-  pub start : Starts "2 2 s" (record { n = 2; m = 2; mode = 1 })
-  pub step-1 : Says "w 1 0 0" (record { desk = 1; act = writes 0 (Day (pos 0)) })
-  pub step-2 : Says "r 1 1" (record { desk = 1; act = reads 1 })
-  pub step-4 : Says "s 0" (record { desk = 0; act = sends })
-  pub step-5 : Says "d 0 1" (record { desk = 1; act = delivers 0 })
-  pub step-6 : Says "t 1" (record { desk = 1; act = takes })
-  pub step-8 : Says "w 0 1 open" (record { desk = 0; act = writes 1 Open })
+  pub start : SaysStart "2 2 s" (record { n = 2; m = 2; mode = 1 })
+  pub step-1 : SaysStep "w 1 0 0" (record { desk = 1; act = writes 0 (Day (pos 0)) })
+  pub step-2 : SaysStep "r 1 1" (record { desk = 1; act = reads 1 })
+  pub step-4 : SaysStep "s 0" (record { desk = 0; act = sends })
+  pub step-5 : SaysStep "d 0 1" (record { desk = 1; act = delivers 0 })
+  pub step-6 : SaysStep "t 1" (record { desk = 1; act = takes })
+  pub step-8 : SaysStep "w 0 1 open" (record { desk = 0; act = writes 1 Open })
 
 pub record AtTheEdges : Type 0 where
-  pub greatest-cell : Says "r 0 4294967295" (record { desk = 0; act = reads 4294967295 })
-  pub greatest-day : Says "w 0 0 2147483647" (record { desk = 0; act = writes 0 (Day (pos 2147483647)) })
-  pub least-day : Says "w 0 0 -2147483648" (record { desk = 0; act = writes 0 (Day (negsuc 2147483647)) })
-  pub greatest-start : Starts "4294967295 4294967295 k" (record { n = 4294967295; m = 4294967295; mode = 3 })
-  pub least-start : Starts "0 0 c" (record { n = 0; m = 0; mode = 2 })
-  pub default-mode : Starts "16 64 -" (record { n = 16; m = 64; mode = 0 })
+  pub greatest-cell : SaysStep "r 0 4294967295" (record { desk = 0; act = reads 4294967295 })
+  pub greatest-day : SaysStep "w 0 0 2147483647" (record { desk = 0; act = writes 0 (Day (pos 2147483647)) })
+  pub least-day : SaysStep "w 0 0 -2147483648" (record { desk = 0; act = writes 0 (Day (negsuc 2147483647)) })
+  pub greatest-start : SaysStart "4294967295 4294967295 k" (record { n = 4294967295; m = 4294967295; mode = 3 })
+  pub least-start : SaysStart "0 0 c" (record { n = 0; m = 0; mode = 2 })
+  pub default-mode : SaysStart "16 64 -" (record { n = 16; m = 64; mode = 0 })
 
 pub record OtherForms : Type 0 where
-  pub nothing-at-all : SaysNothing ""
-  pub two-spaces : SaysNothing "r  0 0"
-  pub space-in-front : SaysNothing " r 0 0"
-  pub space-behind : SaysNothing "r 0 0 "
-  pub a-word-more : SaysNothing "s 0 0"
-  pub a-word-less : SaysNothing "r 0"
-  pub leading-zero : SaysNothing "r 0 01"
-  pub number-beyond : SaysNothing "r 0 4294967296"
-  pub no-such-desk : SaysNothing "r 2 0"
-  pub minus-before-a-cell : SaysNothing "r 0 -1"
-  pub minus-before-0 : SaysNothing "w 0 0 -0"
-  pub day-beyond : SaysNothing "w 0 0 2147483648"
-  pub day-below : SaysNothing "w 0 0 -2147483649"
-  pub blank-is-no-word : SaysNothing "w 0 0 blank"
-  pub capital-letter : SaysNothing "R 0 0"
+  pub nothing-at-all : SaysNoStep ""
+  pub two-spaces : SaysNoStep "r  0 0"
+  pub space-in-front : SaysNoStep " r 0 0"
+  pub space-behind : SaysNoStep "r 0 0 "
+  pub a-word-more : SaysNoStep "s 0 0"
+  pub a-word-less : SaysNoStep "r 0"
+  pub leading-zero : SaysNoStep "r 0 01"
+  pub number-beyond : SaysNoStep "r 0 4294967296"
+  pub no-such-desk : SaysNoStep "r 2 0"
+  pub minus-before-a-cell : SaysNoStep "r 0 -1"
+  pub minus-before-0 : SaysNoStep "w 0 0 -0"
+  pub day-beyond : SaysNoStep "w 0 0 2147483648"
+  pub day-below : SaysNoStep "w 0 0 -2147483649"
+  pub blank-is-no-word : SaysNoStep "w 0 0 blank"
+  pub capital-letter : SaysNoStep "R 0 0"
   pub no-line-feed : stepIn 2 (cut (text "r 0 0")) ≡ none
 
 pub record OtherStarts : Type 0 where
-  pub nothing-at-all : StartsNothing ""
-  pub two-spaces : StartsNothing "2  2 s"
-  pub a-word-more : StartsNothing "2 2 s s"
-  pub a-word-less : StartsNothing "2 2"
-  pub leading-zero : StartsNothing "02 2 s"
-  pub number-beyond : StartsNothing "4294967296 2 s"
-  pub minus-before-desks : StartsNothing "-2 2 s"
-  pub capital-letter : StartsNothing "2 2 S"
+  pub nothing-at-all : SaysNoStart ""
+  pub two-spaces : SaysNoStart "2  2 s"
+  pub a-word-more : SaysNoStart "2 2 s s"
+  pub a-word-less : SaysNoStart "2 2"
+  pub leading-zero : SaysNoStart "02 2 s"
+  pub number-beyond : SaysNoStart "4294967296 2 s"
+  pub minus-before-desks : SaysNoStart "-2 2 s"
+  pub capital-letter : SaysNoStart "2 2 S"
   pub no-line-feed : startIn (cut (text "2 2 s")) ≡ none

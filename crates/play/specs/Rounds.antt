@@ -9,7 +9,7 @@ use lib.Dec.{ltb}
 use lib.ListN.{length}
 use Rattle.answer.specs.Answer.{accepted}
 use Rattle.laying.specs.Laying.{laidOver}
-use Rattle.desk.specs.Calls.{modeFor, openOf}
+use Rattle.desk.specs.Calls.{document01, modeFor, openOf}
 use Rattle.runs.specs.Run.{Shelf, State, start}
 use Rattle.text.specs.Text.{text}
 use Rattle.schedule.specs.Lines.{Line, linesOf}
@@ -57,7 +57,7 @@ badStart = text "bad start\n"
 -- the header, and the steps; "if it has another form or a desk can't be opened, `bad start` alone"
 abbrev pub runText : Option Start → List Line → List ℕ
 runText none lines = badStart
-runText (some x) lines = cond (opens x) (headerText (x .n) (x .m) (modeFor (x .mode)) ++ numbered 1 (stepAnswers (x .n) (start (shelfOf x)) lines)) badStart
+runText (some x) lines = cond (opens x) (headerText (x .n) (x .m) (modeFor (x .mode)) ++ numbered 1 (stepAnswers (x .n) (start document01 (shelfOf x)) lines)) badStart
 
 -- an input without a line has no line 1 of that form
 abbrev pub linesText : List Line → List ℕ

@@ -6,19 +6,20 @@ use mathlib.Core.Bool.{cond}
 use mathlib.Core.List.{List, [], _∷_}
 use mathlib.Core.Option.{Option, none, some}
 use lib.Dec.{eqb}
-use Rattle.runs.specs.Calls.{Call, document01}
-use Rattle.runs.specs.Calls as calls
-unfoldable pub use Rattle.runs.specs.Calls.{sheetRoom}
-use Rattle.runs.specs.Run.{Sheet, State, made, after}
+use Rattle.runs.specs.Call.{Call}
+use Rattle.desk.specs.Calls.{document01}
+use Rattle.runs.specs.Call as calls
+unfoldable pub use Rattle.runs.specs.Call.{sheetRoom}
+use Rattle.runs.specs.Run.{SentSheet, State, made, after}
 use Rattle.schedule.specs.Step.{Step, Act, writes, reads, sends, delivers, takes}
 use Rattle.printing.specs.StepAnswer.{StepAnswer, ofCall, nothingSent}
 
 -- which sheet of the line is this sender's latest: of those from k on, and if there is none, the one found so far
-unfoldable pub latestFrom : ℕ → ℕ → Option ℕ → List Sheet → Option ℕ
+unfoldable pub latestFrom : ℕ → ℕ → Option ℕ → List SentSheet → Option ℕ
 latestFrom sender k found [] = found
 latestFrom sender k found (x ∷ xs) = latestFrom sender (suc k) (cond (eqb (x .from) sender) (some k) found) xs
 
-unfoldable pub latestOf : ℕ → List Sheet → Option ℕ
+unfoldable pub latestOf : ℕ → List SentSheet → Option ℕ
 latestOf sender line = latestFrom sender 0 none line
 
 -- "sender's latest sheet"

@@ -1,7 +1,7 @@
 -- What a step of a schedule comes to: a call's answer, or neither call nor answer.
 -- Assumes nothing.
 use Rattle.answer.specs.Answer.{Answer}
-use Rattle.desk.specs.Answers.{Value, said}
+use Rattle.desk.specs.Answers.{Value, saidAnswer}
 use Rattle.printing.specs.declared.StepAnswer as declared
 use Rattle.printing.specs.declared.StepAnswer.the-variants as cases
 
@@ -14,6 +14,6 @@ pub data StepAnswer : Type 0 where
 
 -- what each case of the code's enum says
 abbrev pub saidStepAnswer : declared.StepAnswer → StepAnswer
-saidStepAnswer (cases.OfCall a) = ofCall (said a)
+saidStepAnswer (cases.OfCall a) = ofCall (saidAnswer a)
 saidStepAnswer cases.NothingSent = nothingSent
 saidStepAnswer cases.BadLine = badLine

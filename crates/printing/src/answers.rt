@@ -4,7 +4,7 @@
 ghost use mathlib.Core.List.{_++_};
 ghost use Prim.Native.Nat.{_+_, _≤_};
 ghost use lib.ListN.{length};
-ghost use Rattle.desk.specs.Answers.{said};
+ghost use Rattle.desk.specs.Answers.{saidAnswer};
 ghost use Rattle.text.specs.Text.{text as text·bytes};
 ghost use Rattle.text.specs.Decimal.{decimal, signedDecimal};
 ghost use Rattle.printing.specs.StepAnswer.{saidStepAnswer};
@@ -102,7 +102,7 @@ fn put_taken(out: &mut [u8], at: usize, turn: u32, entries: u8, applied: u8) -> 
 
 fn put_answer(out: &mut [u8], at: usize, a: Answer) -> usize
     requires { ⌜ at + 40 ≤ length (now out) ⌝ }
-    ensures { λ r. ⌜ Puts 40 (now (out .entry)) at (answerText (said a)) (now (out .exit)) r ⌝ }
+    ensures { λ r. ⌜ Puts 40 (now (out .entry)) at (answerText (saidAnswer a)) (now (out .exit)) r ⌝ }
 {
     match a {
         Answer::Opened => put_text(out, at, b"opened"),

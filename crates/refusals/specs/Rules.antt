@@ -1,13 +1,13 @@
 -- 01, "Numbers given back": "Order within a call is left to right; the first that applies is given, and none otherwise."
--- The rules of a desk's calls, over what they look at: `ok` is whether the record is sound, h the numbers of the record. A call with a sheet
--- or a tray has its rules in parts, as they can be tested; crates/desk/specs/Calls.antt has each call's whole list, with 11 and 13, which
--- are found where a sheet is written or read.
+-- The rules of a desk's calls as they can be tested, over what they look at: `ok` is whether the record is sound, h the numbers of the record.
+-- A call with a sheet or a tray has them in parts. `openRules` to `takeRules` (crates/desk/specs/Calls.antt) are each call's whole list, with 11
+-- and 13, which are found where a sheet is written or read.
 -- Assumes nothing.
 use Prim.Native.Nat.{ℕ, _+_, _*_}
 use mathlib.Core.Bool.{Bool, not, _&&_}
 use mathlib.Core.List.{List, [], _∷_}
 use lib.Dec.{eqb, leb, ltb}
-use Rattle.answer.specs.Answer.{Rule, _if_, leaves, numberOf}
+use Rattle.answer.specs.Answer.{Rule, _if_, leaves, firstNumber}
 use Rattle.numbers.specs.Limits.{desksWithin, cellsWithin}
 use Rattle.layout.specs.declared.Numbers.{Numbers}
 use Rattle.layout.specs.Layout.{trailerIn, numbersOf}
@@ -21,8 +21,8 @@ abbrev pub lastTurn : ℕ
 lastTurn = 4294967295
 
 -- Open. 1, 2, 3, 4: "desks, cells, own number, mode (above 3) outside its range"
-abbrev pub openRules : ℕ → ℕ → ℕ → ℕ → List Rule
-openRules n m own mode =
+abbrev pub openTests : ℕ → ℕ → ℕ → ℕ → List Rule
+openTests n m own mode =
     1 if not (desksWithin n)
     ∷ 2 if not (cellsWithin m)
     ∷ 3 if leb n own
@@ -30,8 +30,8 @@ openRules n m own mode =
     ∷ []
 
 -- Write. 5 "record not sound", 6 "cell not below m", 7 "write of blank", 8 "a read waits at this desk"
-abbrev pub writeRules : Bool → Head → ℕ → ℕ → List Rule
-writeRules ok h cell kind =
+abbrev pub writeTests : Bool → Head → ℕ → ℕ → List Rule
+writeTests ok h cell kind =
     5 if not ok
     ∷ 6 if leb (h .m) cell
     ∷ 7 if eqb kind 0
@@ -39,16 +39,16 @@ writeRules ok h cell kind =
     ∷ []
 
 -- Read. 5, 6, 8
-abbrev pub readRules : Bool → Head → ℕ → List Rule
-readRules ok h cell =
+abbrev pub readTests : Bool → Head → ℕ → List Rule
+readTests ok h cell =
     5 if not ok
     ∷ 6 if leb (h .m) cell
     ∷ 8 if readWaits h
     ∷ []
 
 -- Send, before the sheet is written. 5, 9 "turn not this desk's", 10 "turn number is 4,294,967,295"
-abbrev pub sendRules : Bool → Head → List Rule
-sendRules ok h =
+abbrev pub sendTests : Bool → Head → List Rule
+sendTests ok h =
     5 if not ok
     ∷ 9 if not (ownTurn h)
     ∷ 10 if eqb (h .turn) lastTurn
@@ -59,8 +59,8 @@ abbrev pub trayFits : Head → ℕ → Bool
 trayFits h size = eqb size (398 * h .n)
 
 -- Deliver and take, of a tray of this length. 5, 12 "tray length not 398 × n"
-abbrev pub trayRules : Bool → Head → ℕ → List Rule
-trayRules ok h size =
+abbrev pub trayTests : Bool → Head → ℕ → List Rule
+trayTests ok h size =
     5 if not ok
     ∷ 12 if not (trayFits h size)
     ∷ []
@@ -68,8 +68,8 @@ trayRules ok h size =
 -- Deliver, of a good sheet with these numbers, whose sender's place is free or not. 14 "sheet's desks or cells differ from the record's",
 -- 15 "sheet's sender is this desk", 16 "sheet's number below the desk's turn number", 17 "sheet's number at or above turn number + n",
 -- 18 "sender's place not free"
-abbrev pub sheetRules : Head → Numbers → Bool → List Rule
-sheetRules h x isFree =
+abbrev pub sheetTests : Head → Numbers → Bool → List Rule
+sheetTests h x isFree =
     14 if not (eqb (x .desks) (h .n) && eqb (x .cells) (h .m))
     ∷ 15 if eqb (x .sender) (h .own)
     ∷ 16 if ltb (x .turn) (h .turn)
@@ -78,8 +78,8 @@ sheetRules h x isFree =
     ∷ []
 
 -- Take, behind 5 and 12. 19 "take on the desk's own turn", 10
-abbrev pub turnRules : Head → List Rule
-turnRules h =
+abbrev pub turnTests : Head → List Rule
+turnTests h =
     19 if ownTurn h
     ∷ 10 if eqb (h .turn) lastTurn
     ∷ []
@@ -90,8 +90,8 @@ isNext h x = (eqb (x .desks) (h .n) && eqb (x .cells) (h .m)) && (eqb (x .sender
 
 -- Take, of the turn desk q. 20 "first two bytes of the turn desk's place are zero", 21 "place does not hold a good sheet of this shelf with
 -- that sender and turn number, followed by zeros"
-abbrev pub placeRules : Head → List ℕ → ℕ → List Rule
-placeRules h tray q =
+abbrev pub placeTests : Head → List ℕ → ℕ → List Rule
+placeTests h tray q =
     20 if free tray q
     ∷ 21 if not (holdsGood tray q && isNext h (numbersOf (trailerIn (sheetAt tray q))))
     ∷ []
@@ -99,5 +99,5 @@ placeRules h tray q =
 -- what a look at that place finds: the number, and the sheet's number of entries where it is 0
 unfoldable pub lookedAt : Head → List ℕ → ℕ → Looked
 lookedAt h tray q =
-    let rules = placeRules h tray q in
-    record { number = numberOf rules; entries = leaves rules 0 (trailerIn (sheetAt tray q) .entries) }
+    let rules = placeTests h tray q in
+    record { number = firstNumber rules; entries = leaves rules 0 (trailerIn (sheetAt tray q) .entries) }

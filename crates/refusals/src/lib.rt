@@ -6,8 +6,8 @@
 // read.
 ghost use mathlib.Core.List.{_++_};
 ghost use mathlib.Core.Path.{_≡_};
-ghost use Rattle.answer.specs.Answer.{numberOf};
-ghost use Rattle.refusals.specs.Rules.{openRules, writeRules, readRules, sendRules, trayRules, sheetRules, turnRules, isNext, lookedAt};
+ghost use Rattle.answer.specs.Answer.{firstNumber};
+ghost use Rattle.refusals.specs.Rules.{openTests, writeTests, readTests, sendTests, trayTests, sheetTests, turnTests, isNext, lookedAt};
 use answer::first;
 use layout::Numbers;
 use sound::Head;
@@ -15,7 +15,7 @@ use tray::Place;
 
 // Open: 1, 2, 3, 4.
 pub fn open_number(n: u32, m: u32, own: u32, mode: u32) -> u8
-    ensures { λ r. ⌜ r ≡ numberOf (openRules n m own mode) ⌝ }
+    ensures { λ r. ⌜ r ≡ firstNumber (openTests n m own mode) ⌝ }
 {
     let modes = first(3 < mode, 4, 0);
     let owns = first(n <= own, 3, modes);
@@ -25,7 +25,7 @@ pub fn open_number(n: u32, m: u32, own: u32, mode: u32) -> u8
 
 // Write: 5, 6, 7, 8.
 pub fn write_number(ok: bool, h: Head, cell: u32, kind: u8) -> u8
-    ensures { λ r. ⌜ r ≡ numberOf (writeRules ok h cell kind) ⌝ }
+    ensures { λ r. ⌜ r ≡ firstNumber (writeTests ok h cell kind) ⌝ }
 {
     let waits = first(h.wait != 0, 8, 0);
     let blank = first(kind == 0, 7, waits);
@@ -35,7 +35,7 @@ pub fn write_number(ok: bool, h: Head, cell: u32, kind: u8) -> u8
 
 // Read: 5, 6, 8.
 pub fn read_number(ok: bool, h: Head, cell: u32) -> u8
-    ensures { λ r. ⌜ r ≡ numberOf (readRules ok h cell) ⌝ }
+    ensures { λ r. ⌜ r ≡ firstNumber (readTests ok h cell) ⌝ }
 {
     let waits = first(h.wait != 0, 8, 0);
     let range = first((h.m as u32) <= cell, 6, waits);
@@ -44,7 +44,7 @@ pub fn read_number(ok: bool, h: Head, cell: u32) -> u8
 
 // Send: 5, 9, 10; then the sheet is written.
 pub fn send_number(ok: bool, h: Head) -> u8
-    ensures { λ r. ⌜ r ≡ numberOf (sendRules ok h) ⌝ }
+    ensures { λ r. ⌜ r ≡ firstNumber (sendTests ok h) ⌝ }
 {
     let own = h.own_turn();
     let last = first(h.turn == 4294967295, 10, 0);
@@ -54,7 +54,7 @@ pub fn send_number(ok: bool, h: Head) -> u8
 
 // Deliver and take: 5, 12; then the sheet is read, or the turn looked at.
 pub fn tray_number(ok: bool, h: Head, size: usize) -> u8
-    ensures { λ r. ⌜ r ≡ numberOf (trayRules ok h size) ⌝ }
+    ensures { λ r. ⌜ r ≡ firstNumber (trayTests ok h size) ⌝ }
 {
     let long = first(!(size == 398 * (h.n as usize)), 12, 0);
     first(!ok, 5, long)
@@ -62,7 +62,7 @@ pub fn tray_number(ok: bool, h: Head, size: usize) -> u8
 
 // Deliver, of a good sheet: 14, 15, 16, 17, 18. The turn number and n are added in 64 bits, exactly.
 pub fn sheet_number(h: Head, x: Numbers, free: bool) -> u8
-    ensures { λ r. ⌜ r ≡ numberOf (sheetRules h x free) ⌝ }
+    ensures { λ r. ⌜ r ≡ firstNumber (sheetTests h x free) ⌝ }
 {
     let full = first(!free, 18, 0);
     let far = first((h.turn as u64) + (h.n as u64) <= (x.turn as u64), 17, full);
@@ -73,7 +73,7 @@ pub fn sheet_number(h: Head, x: Numbers, free: bool) -> u8
 
 // Take: 5, 12, 19, 10; then the place is looked at.
 pub fn take_number(ok: bool, h: Head, size: usize) -> u8
-    ensures { λ r. ⌜ r ≡ numberOf (trayRules ok h size ++ turnRules h) ⌝ }
+    ensures { λ r. ⌜ r ≡ firstNumber (trayTests ok h size ++ turnTests h) ⌝ }
 {
     let own = h.own_turn();
     let last = first(h.turn == 4294967295, 10, 0);

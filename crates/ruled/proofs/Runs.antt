@@ -17,9 +17,9 @@ use Rattle.answer.specs.Answer.{Answer}
 use Rattle.content.specs.declared.Content.{Content}
 use Rattle.content.specs.Content.{dayOf}
 use Rattle.desk.specs.Answers.{Value}
-use Rattle.desk.specs.Calls.{modeFor, openOf}
-use Rattle.runs.specs.Calls.{Call, document01}
-use Rattle.runs.specs.Run.{Within, Sheet, State, start, made, after, Possible, Run, answersOf}
+use Rattle.desk.specs.Calls.{document01, modeFor, openOf}
+use Rattle.runs.specs.Call.{Call}
+use Rattle.runs.specs.Run.{Within, SentSheet, State, start, made, after, Possible, Run, answersOf}
 use Rattle.runs.proofs.TurnRules.{turn-rules}
 use Rattle.runs.proofs.Laws.Lists.{run-split}
 use Rattle.schedule.specs.Step as spec
@@ -65,7 +65,7 @@ within : Option ℕ → ℕ → Type 0
 within none k = Unit {0}
 within (some i) k = i < k
 
-there-from : (q k : ℕ) (found : Option ℕ) (line : List Sheet) → within found k → within (latestFrom q k found line) (k + length line)
+there-from : (q k : ℕ) (found : Option ℕ) (line : List SentSheet) → within found k → within (latestFrom q k found line) (k + length line)
 unfolding latestFrom within
 there-from q k found [] so = sooner found so
   where
@@ -137,16 +137,16 @@ unfolding printed
 schedules-are-runs input x lines so =
     let n : ℕ = x .n in
     let limits = shelf-within x (so .can-open) in
-    let run = is-run n (start (shelfOf x)) lines in
+    let run = is-run n (start document01 (shelfOf x)) lines in
     record {
       is-run = record { within = limits; run = run };
-      same-answers = answers-of n (start (shelfOf x)) lines;
+      same-answers = answers-of n (start document01 (shelfOf x)) lines;
       prints =
           ap (λ (b : Bool). cond b (text "too long\n") (linesText (linesOf input))) (so .fits)
           ∙ ap linesText (so .all-lines)
           ∙ ap (λ (o : Option Start). runText o lines) (so .says)
-          ∙ ap (λ (b : Bool). cond b (headerText n (x .m) (modeFor (x .mode)) ++ numbered 1 (stepAnswers n (start (shelfOf x)) lines)) badStart) (so .can-open);
+          ∙ ap (λ (b : Bool). cond b (headerText n (x .m) (modeFor (x .mode)) ++ numbered 1 (stepAnswers n (start document01 (shelfOf x)) lines)) badStart) (so .can-open);
       turn-rules = λ cs ds e.
           turn-rules (shelfOf x) cs
-          (record { within = limits; run = run-split document01 n (start (shelfOf x)) cs ds (subst (Run document01 n (start (shelfOf x))) e run) .0 });
+          (record { within = limits; run = run-split document01 n (start document01 (shelfOf x)) cs ds (subst (Run document01 n (start document01 (shelfOf x))) e run) .0 });
     }

@@ -7,8 +7,8 @@ use mathlib.Core.List.{List, [], _∷_, _++_}
 use mathlib.Core.Option.{Option, none, some}
 use Rattle.answer.specs.Answer.{Answer}
 use Rattle.desk.specs.Answers.{Value}
-use Rattle.desk.specs.Calls.{modeFor, openOf}
-use Rattle.runs.specs.Calls.{Call, document01}
+use Rattle.desk.specs.Calls.{document01, modeFor, openOf}
+use Rattle.runs.specs.Call.{Call}
 use Rattle.runs.specs.Run.{State, start, after, answersOf, RunOn}
 use Rattle.runs.specs.TurnRules.{TurnRules}
 use Rattle.schedule.specs.Lines.{Line, linesOf}
@@ -52,7 +52,7 @@ callAnswers (badLine ∷ rest) = callAnswers rest
 -- ---- a schedule is a run
 
 -- a schedule that is not too long, with a line 1 that says a shelf whose desks can be opened, and these lines behind it
-pub record Starts (input : List ℕ) (x : Start) (lines : List Line) : Type 0 where
+pub record Playable (input : List ℕ) (x : Start) (lines : List Line) : Type 0 where
   pub fits : tooLong input ≡ false
   pub first : Line
   pub all-lines : linesOf input ≡ first ∷ lines
@@ -62,10 +62,10 @@ pub record Starts (input : List ℕ) (x : Start) (lines : List Line) : Type 0 wh
 -- its steps are calls of a run of demand 3, from all desks opened once, with clear trays; what is printed are that run's answers, line by line; and
 -- the turn rules hold after each of its calls
 pub record IsARun (input : List ℕ) (x : Start) (lines : List Line) : Type 0 where
-  pub is-run : RunOn document01 (shelfOf x) (callsIn (x .n) (start (shelfOf x)) lines)
-  pub same-answers : callAnswers (stepAnswers (x .n) (start (shelfOf x)) lines) ≡ answersOf document01 (start (shelfOf x)) (callsIn (x .n) (start (shelfOf x)) lines)
-  pub prints : printed input ≡ headerText (x .n) (x .m) (modeFor (x .mode)) ++ numbered 1 (stepAnswers (x .n) (start (shelfOf x)) lines)
-  pub turn-rules : (cs ds : List Call) → callsIn (x .n) (start (shelfOf x)) lines ≡ cs ++ ds → TurnRules document01 (shelfOf x) cs
+  pub is-run : RunOn document01 (shelfOf x) (callsIn (x .n) (start document01 (shelfOf x)) lines)
+  pub same-answers : callAnswers (stepAnswers (x .n) (start document01 (shelfOf x)) lines) ≡ answersOf document01 (start document01 (shelfOf x)) (callsIn (x .n) (start document01 (shelfOf x)) lines)
+  pub prints : printed input ≡ headerText (x .n) (x .m) (modeFor (x .mode)) ++ numbered 1 (stepAnswers (x .n) (start document01 (shelfOf x)) lines)
+  pub turn-rules : (cs ds : List Call) → callsIn (x .n) (start document01 (shelfOf x)) lines ≡ cs ++ ds → TurnRules document01 (shelfOf x) cs
 
 abbrev pub SchedulesAreRuns : Type 0
-SchedulesAreRuns = (input : List ℕ) (x : Start) (lines : List Line) → Starts input x lines → IsARun input x lines
+SchedulesAreRuns = (input : List ℕ) (x : Start) (lines : List Line) → Playable input x lines → IsARun input x lines

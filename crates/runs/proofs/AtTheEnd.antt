@@ -17,10 +17,10 @@ use Rattle.sheet.proofs.Laws.Good.{good-trailer-is-fair}
 use Rattle.sound.specs.Head.{readWaits, waitCell}
 use Rattle.desk.specs.Answers.{Value}
 use Rattle.refusals.specs.Rules.{lastTurn}
-use Rattle.desk.specs.Calls.{sendOf, deliverOf, takeRules, takeOf}
+use Rattle.desk.specs.Calls.{document01, sendOf, deliverOf, takeRules, takeOf}
 use Rattle.desk.specs.declared.Desk.{Desk}
 use Rattle.desk.proofs.Laws.Allowed.{take-allows}
-use Rattle.runs.specs.Calls.{document01, delivers, Call, takes}
+use Rattle.runs.specs.Call.{delivers, Call, takes}
 use Rattle.runs.specs.Run.{Shelf, State, sheetNo, made, after, Possible}
 use Rattle.runs.specs.TurnRules.{turnOf, ReadWaits}
 use Rattle.runs.specs.EveryRun.{SheetInOrder}

@@ -13,9 +13,9 @@ use Rattle.answer.specs.Answer.{Answer, answered}
 use Rattle.answer.proofs.Laws.{refused-is-not-answered}
 use Rattle.desk.specs.declared.Desk.{Desk}
 use Rattle.desk.specs.Answers.{Value, waits}
-use Rattle.desk.specs.Calls.{waitingDesk}
-use Rattle.runs.specs.Calls.{Call, document01, reads}
-use Rattle.runs.specs.Run.{Shelf, State, sheetNo, start, after, RunOn, now}
+use Rattle.desk.specs.Calls.{document01, waitingDesk}
+use Rattle.runs.specs.Call.{Call, reads}
+use Rattle.runs.specs.Run.{Shelf, State, sheetNo, start, after, RunOn, reached}
 use Rattle.runs.specs.TurnRules.{turnOf, HasTurn, Untaken, OneTurn, OneSheet, WaitEnds, Demand3}
 use Rattle.runs.proofs.Laws.InOrder.{InOrder}
 use Rattle.runs.proofs.Laws.Cyclic.{window, Next, next}
@@ -42,37 +42,37 @@ now-waits e (is-read q i silent w) = absurd (let z : _≡_ {A = ℕ} 0 1 = cc in
 now-waits {s} e (is-waiting q i silent w) = ap (λ (x : Desk). x .head .wait) (put-same (s .desk) q (waitingDesk (s .desk q) i))
 
 module _ (shelf : Shelf) (cs : List Call) (r : RunOn document01 shelf cs) where
-  o : InOrder shelf (now document01 shelf cs)
+  o : InOrder shelf (reached document01 shelf cs)
   o = in-order shelf cs r
 
   one-turn : OneTurn document01 shelf cs
   one-turn p q here there a b = has-turn o p here a ∙ sym (has-turn o q there b)
 
   -- a sheet of another desk that was not taken is not below the turn number
-  not-past : (p k : ℕ) → p < shelf .n → k % shelf .n ≢ p → Untaken document01 shelf cs p k → turnOf (now document01 shelf cs) p ≤ k
+  not-past : (p k : ℕ) → p < shelf .n → k % shelf .n ≢ p → Untaken document01 shelf cs p k → turnOf (reached document01 shelf cs) p ≤ k
   unfolding start
-  not-past p k here other z = by-test (decLt k (turnOf (now document01 shelf cs) p))
+  not-past p k here other z = by-test (decLt k (turnOf (reached document01 shelf cs) p))
     where
-      by-test : Dec (k < turnOf (now document01 shelf cs) p) → turnOf (now document01 shelf cs) p ≤ k
+      by-test : Dec (k < turnOf (reached document01 shelf cs) p) → turnOf (reached document01 shelf cs) p ≤ k
       by-test (yes l) =
           let clear = fresh shelf (r .within) in
           let none-sent = clear .desks p here .no-further in
-          absurd (z .untaken (gone-past shelf p here (start shelf) cs clear (r .run) k (omega (arith, none-sent)) l other))
+          absurd (z .untaken (gone-past shelf p here (start document01 shelf) cs clear (r .run) k (omega (arith, none-sent)) l other))
       by-test (no l) = omega arith
 
   one-sheet : OneSheet document01 shelf cs
   one-sheet p q here apart j k from-j from-k a b = by-test (decLt j k)
     where
-      remainder : (i : ℕ) → i < length (now document01 shelf cs .line) → sheetNo (now document01 shelf cs) i .from ≡ q → i % shelf .n ≡ q
+      remainder : (i : ℕ) → i < length (reached document01 shelf cs .line) → sheetNo (reached document01 shelf cs) i .from ≡ q → i % shelf .n ≡ q
       remainder i sent e = sym (o .sheets i sent .from) ∙ e
 
       same : j % shelf .n ≡ k % shelf .n
       same = remainder j (a .sent) from-j ∙ sym (remainder k (b .sent) from-k)
 
-      j-due : turnOf (now document01 shelf cs) p ≤ j
+      j-due : turnOf (reached document01 shelf cs) p ≤ j
       j-due = not-past p j here (λ e. apart (sym (remainder j (a .sent) from-j) ∙ e)) a
 
-      k-due : turnOf (now document01 shelf cs) p ≤ k
+      k-due : turnOf (reached document01 shelf cs) p ≤ k
       k-due = not-past p k here (λ e. apart (sym (remainder k (b .sent) from-k) ∙ e)) b
 
       by-test : Dec (j < k) → j ≡ k
@@ -83,13 +83,13 @@ module _ (shelf : Shelf) (cs : List Call) (r : RunOn document01 shelf cs) where
   wait-ends p cell here e ds run takes = wait-ended shelf p here cell (mine .k) (mine .leaves) t ds later-order run waiting (omega (arith, mine .least, apart)) (omega (arith, mine .near, takes))
     where
       t : State
-      t = after document01 (now document01 shelf cs) (reads p cell)
+      t = after document01 (reached document01 shelf cs) (reads p cell)
 
       later-order : InOrder shelf t
-      later-order = step-in-order o here (step (now document01 shelf cs) (reads p cell))
+      later-order = step-in-order o here (step (reached document01 shelf cs) (reads p cell))
 
       waiting : t .desk p .head .wait ≡ cell + 1
-      waiting = now-waits e (step (now document01 shelf cs) (reads p cell))
+      waiting = now-waits e (step (reached document01 shelf cs) (reads p cell))
 
       mine : Next (shelf .n) p (turnOf t p)
       mine = next (shelf .n) p (turnOf t p) here

@@ -2,7 +2,7 @@
 -- 10 is "turn number is 4,294,967,295". A desk whose turn number is that sends and takes no more, and nothing breaks: every call keeps records sound
 -- (specs/EveryRun.antt), parts 1, 2, 3 and 5 of the demand hold as before, having no premise on turn numbers (specs/TurnRules.antt), and what is
 -- left of part 4 is that some desk can go on until all are at their end. Part 5 counts accepted takes, and there are none any more: a read that
--- waits at a desk at its end goes on waiting. proofs/AtTheEnd.antt proves it; that the end comes is shown by a run (crates/played/specs/TheEndComes.antt).
+-- waits at a desk at its end goes on waiting. proofs/AtTheEnd.antt proves it; that the end comes is shown by a run (crates/witness/specs/TheEndComes.antt).
 -- Assumes nothing.
 use mathlib.Core.Path.{_≡_}
 use mathlib.Core.Logic.{_≢_}
@@ -13,8 +13,9 @@ use lib.ListN.{length}
 use Rattle.answer.specs.Answer.{refused}
 use Rattle.sound.specs.Head.{ownTurn}
 use Rattle.refusals.specs.Rules.{lastTurn}
-use Rattle.runs.specs.Calls.{Call, document01, sends, delivers, takes}
-use Rattle.runs.specs.Run.{Shelf, State, sheetNo, made, after, Possible, RunOn, now}
+use Rattle.runs.specs.Call.{Call, sends, delivers, takes}
+use Rattle.desk.specs.Calls.{document01}
+use Rattle.runs.specs.Run.{Shelf, State, sheetNo, made, after, Possible, RunOn, reached}
 use Rattle.runs.specs.TurnRules.{turnOf, SomeGoesOn, ReadWaits}
 
 -- what desk p, at its end, answers
@@ -36,10 +37,10 @@ pub record AtItsEnd (n : ℕ) (s : State) (p : ℕ) : Type 0 where
 abbrev pub NothingBreaks : Type 0
 NothingBreaks =
     (shelf : Shelf) (cs : List Call) → RunOn document01 shelf cs
-    → (let s = now document01 shelf cs in (p : ℕ) → p < shelf .n → turnOf s p ≡ lastTurn → AtItsEnd (shelf .n) s p)
+    → (let s = reached document01 shelf cs in (p : ℕ) → p < shelf .n → turnOf s p ≡ lastTurn → AtItsEnd (shelf .n) s p)
 
 -- as long as one desk is not at its end, some desk can send or take
 abbrev pub OthersGoOn : Type 0
 OthersGoOn =
     (shelf : Shelf) (cs : List Call) → RunOn document01 shelf cs
-    → (let s = now document01 shelf cs in (q : ℕ) → q < shelf .n → turnOf s q < lastTurn → SomeGoesOn document01 (shelf .n) s)
+    → (let s = reached document01 shelf cs in (q : ℕ) → q < shelf .n → turnOf s q < lastTurn → SomeGoesOn document01 (shelf .n) s)

@@ -13,10 +13,10 @@ use Rattle.layout.specs.Values.{AreBytes}
 use Rattle.sheet.specs.Good.{good}
 use Rattle.desk.specs.declared.Desk.{Desk}
 use Rattle.desk.specs.Answers.{opened}
-use Rattle.desk.specs.Calls.{sound, modeFor, openOf}
+use Rattle.desk.specs.Calls.{document01, sound, modeFor, openOf}
 use Rattle.desk.specs.Values.{DeskFits}
-use Rattle.runs.specs.Calls.{Call, document01}
-use Rattle.runs.specs.Run.{Shelf, Within, Sheet, sheetNo, RunOn, now}
+use Rattle.runs.specs.Call.{Call}
+use Rattle.runs.specs.Run.{Shelf, Within, SentSheet, sheetNo, RunOn, reached}
 use Rattle.runs.specs.TurnRules.{turnOf, Never}
 
 -- "Open all desks of a shelf once": every open is carried out
@@ -36,10 +36,10 @@ pub record AsOpened (shelf : Shelf) (p : ℕ) (d : Desk) : Type 0 where
 -- so is every desk's, whatever calls were made
 abbrev pub RecordsAsOpened : Type 0
 RecordsAsOpened =
-    (shelf : Shelf) (cs : List Call) → RunOn document01 shelf cs → (p : ℕ) → p < shelf .n → AsOpened shelf p (now document01 shelf cs .desk p)
+    (shelf : Shelf) (cs : List Call) → RunOn document01 shelf cs → (p : ℕ) → p < shelf .n → AsOpened shelf p (reached document01 shelf cs .desk p)
 
 -- the sheet before which k were sent: 00, "Desks take turns in the order of their numbers."
-pub record SheetInOrder (shelf : Shelf) (k : ℕ) (sheet : Sheet) : Type 0 where
+pub record SheetInOrder (shelf : Shelf) (k : ℕ) (sheet : SentSheet) : Type 0 where
   pub from : sheet .from ≡ k % shelf .n
   pub is-good : good (sheet .bytes) ≡ true
   pub are-bytes : AreBytes (sheet .bytes)
@@ -52,14 +52,14 @@ pub record SheetInOrder (shelf : Shelf) (k : ℕ) (sheet : Sheet) : Type 0 where
 abbrev pub SheetsInOrder : Type 0
 SheetsInOrder =
     (shelf : Shelf) (cs : List Call) → RunOn document01 shelf cs
-    → (let s = now document01 shelf cs in (k : ℕ) → k < length (s .line) → SheetInOrder shelf k (sheetNo s k))
+    → (let s = reached document01 shelf cs in (k : ℕ) → k < length (s .line) → SheetInOrder shelf k (sheetNo s k))
 
 -- how far ahead of a desk a sheet can be: of the n numbers from its turn number on one is the desk's own and not sent, and sheets are sent in the order
 -- of their numbers; so turn number + n - 2 is the most. That is two below where 17 begins
 abbrev pub NotFarAhead : Type 0
 NotFarAhead =
     (shelf : Shelf) (cs : List Call) → RunOn document01 shelf cs
-    → (let s = now document01 shelf cs in (p k : ℕ) → p < shelf .n → k < length (s .line) → k + 2 ≤ turnOf s p + shelf .n)
+    → (let s = reached document01 shelf cs in (p k : ℕ) → p < shelf .n → k < length (s .line) → k + 2 ≤ turnOf s p + shelf .n)
 
 -- beside 17, 5 "record not sound", 12 "tray length not 398 × n", 13 "sheet not good", 14 "sheet's desks or cells differ from the record's", 21 "place does
 -- not hold a good sheet of this shelf with that sender and turn number, followed by zeros"

@@ -1,4 +1,4 @@
-pub mod Calls
+pub mod Call
 pub mod Run
 pub mod TurnRules
 pub mod EveryRun

@@ -13,8 +13,8 @@ use Rattle.answer.specs.Answer.{Answer, refused, answered}
 use Rattle.content.specs.Content.{dayOf}
 use Rattle.desk.specs.declared.Desk.{Desk}
 use Rattle.desk.specs.Answers.{Value, opened, stored, holds, waits, sent, held, taken, Done}
-use Rattle.desk.specs.Calls.{openOf}
-use Rattle.runs.specs.Calls.{Calls, Call, writes, reads, sends, delivers, takes}
+use Rattle.desk.specs.Calls.{Calls}
+use Rattle.runs.specs.Call.{Call, writes, reads, sends, delivers, takes}
 
 -- ---- a shelf
 
@@ -35,7 +35,7 @@ pub record Within (shelf : Shelf) : Type 0 where
 -- ---- what there is at some time
 
 -- a sheet that was sent, and which desk sent it
-pub record Sheet : Type 0 where
+pub record SentSheet : Type 0 where
   pub from : ℕ
   pub bytes : List ℕ
 
@@ -43,20 +43,20 @@ pub record Sheet : Type 0 where
 pub record State : Type 0 where
   pub desk : ℕ → Desk
   pub tray : ℕ → List ℕ
-  pub line : List Sheet
+  pub line : List SentSheet
 
 -- the sheet before which k were sent (an empty one where there is none; no run delivers that)
-abbrev pub sheetOn : List Sheet → ℕ → Sheet
+abbrev pub sheetOn : List SentSheet → ℕ → SentSheet
 sheetOn line k = getD line k (record { from = 0; bytes = [] })
 
-abbrev pub sheetNo : State → ℕ → Sheet
+abbrev pub sheetNo : State → ℕ → SentSheet
 sheetNo s = sheetOn (s .line)
 
 -- "Open all desks of a shelf once, with clear trays"
-unfoldable pub start : Shelf → State
-start shelf =
+unfoldable pub start : Calls → Shelf → State
+start calls shelf =
     record {
-      desk = λ p. openOf (shelf .n) (shelf .m) p (shelf .mode p) .desk;
+      desk = λ p. calls .opening (shelf .n) (shelf .m) p (shelf .mode p) .desk;
       tray = λ p. replicate (398 * shelf .n) 0;
       line = [];
     }
@@ -77,7 +77,7 @@ put f p a q = cond (eqb q p) a (f q)
 
 -- the sheet that a send left in the bytes lent to it, if it was carried out: its answer gives "its number of entries", 6 bytes each, and then
 -- there is "the trailer of 12 bytes"
-abbrev pub sheetLeft : ℕ → Answer Value → List ℕ → List Sheet
+abbrev pub sheetLeft : ℕ → Answer Value → List ℕ → List SentSheet
 sheetLeft p (refused k) lent = []
 sheetLeft p (answered opened) lent = []
 sheetLeft p (answered stored) lent = []
@@ -135,8 +135,8 @@ answersOf calls s (c ∷ cs) = made calls s c .answer ∷ answersOf calls (after
 -- these calls are a run on this shelf: the premises of demand 3, whole
 pub record RunOn (calls : Calls) (shelf : Shelf) (cs : List Call) : Type 0 where
   pub within : Within shelf
-  pub run : Run calls (shelf .n) (start shelf) cs
+  pub run : Run calls (shelf .n) (start calls shelf) cs
 
 -- what there is after these calls
-abbrev pub now : Calls → Shelf → List Call → State
-now calls shelf cs = afterAll calls (start shelf) cs
+abbrev pub reached : Calls → Shelf → List Call → State
+reached calls shelf cs = afterAll calls (start calls shelf) cs

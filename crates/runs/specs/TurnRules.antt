@@ -17,8 +17,9 @@ use Rattle.sound.specs.Head.{turnDesk, ownTurn, readWaits, waitCell}
 use Rattle.tray.specs.Tray.{sheetAt}
 use Rattle.refusals.specs.Rules.{lastTurn}
 use Rattle.desk.specs.Answers.{Value, waits, sent, held, taken}
-use Rattle.runs.specs.Calls.{Calls, Call, writes, reads, sends, delivers, takes}
-use Rattle.runs.specs.Run.{Shelf, State, sheetNo, start, made, after, Possible, Run, RunOn, now}
+use Rattle.runs.specs.Call.{Call, writes, reads, sends, delivers, takes}
+use Rattle.desk.specs.Calls.{Calls}
+use Rattle.runs.specs.Run.{Shelf, State, sheetNo, start, made, after, Possible, Run, RunOn, reached}
 
 -- ---- words of the demand
 
@@ -50,8 +51,8 @@ pub data TakesSheet (calls : Calls) (p k : ℕ) (s : State) : Call → Type 0 wh
 
 -- sheet k is "sent" when these calls have been made on a fresh shelf, and "untaken" by desk p: none of them took it
 pub record Untaken (calls : Calls) (shelf : Shelf) (cs : List Call) (p k : ℕ) : Type 0 where
-  pub sent : k < length (now calls shelf cs .line)
-  pub untaken : OneOf calls (TakesSheet calls p k) (start shelf) cs → ⊥
+  pub sent : k < length (reached calls shelf cs .line)
+  pub untaken : OneOf calls (TakesSheet calls p k) (start calls shelf) cs → ⊥
 
 -- desk p "can send into 396 bytes", or more: whatever they are, the send is carried out with the desk's turn number
 abbrev pub CanSend : Calls → State → ℕ → Type 0
@@ -126,33 +127,33 @@ pub data ReadAnswered (calls : Calls) (p cell : ℕ) : State → List Call → T
 -- 1. "at most one desk has its own turn"
 abbrev pub OneTurn : Calls → Shelf → List Call → Type 0
 OneTurn calls shelf cs =
-    let s = now calls shelf cs in
+    let s = reached calls shelf cs in
     (p q : ℕ) → p < shelf .n → q < shelf .n → HasTurn s p → HasTurn s q → p ≡ q
 
 -- 2. "a desk has at most one sent and untaken sheet from each other desk": of sheets j and k, both from desk q
 abbrev pub OneSheet : Calls → Shelf → List Call → Type 0
 OneSheet calls shelf cs =
-    let s = now calls shelf cs in
+    let s = reached calls shelf cs in
     (p q : ℕ) → p < shelf .n → q ≢ p → (j k : ℕ) → sheetNo s j .from ≡ q → sheetNo s k .from ≡ q
     → Untaken calls shelf cs p j → Untaken calls shelf cs p k → j ≡ k
 
 -- 3. "refusal 17 never comes", and of any other refusal: whichever call is next
 abbrev pub Never : ℕ → Calls → Shelf → List Call → Type 0
 Never number calls shelf cs =
-    let s = now calls shelf cs in
+    let s = reached calls shelf cs in
     (c : Call) → Possible (shelf .n) s c → made calls s c .answer ≢ refused number
 
 -- 4. "While no desk's turn number has reached its end: .. some desk can send into 396 bytes, or can take its next sheet, one already sent, once
 -- delivered."
 abbrev pub GoesOn : Calls → Shelf → List Call → Type 0
-GoesOn calls shelf cs = let s = now calls shelf cs in BeforeTheEnd (shelf .n) s → SomeGoesOn calls (shelf .n) s
+GoesOn calls shelf cs = let s = reached calls shelf cs in BeforeTheEnd (shelf .n) s → SomeGoesOn calls (shelf .n) s
 
 -- 5. "A read that waits is answered by its desk's accepted take number n-1 at the latest, counted from that read, for n desks.": of any further
 -- calls among which that desk has n-1 accepted takes or more, one answers it
 abbrev pub WaitEnds : Calls → Shelf → List Call → Type 0
 WaitEnds calls shelf cs =
-    (p cell : ℕ) → p < shelf .n → made calls (now calls shelf cs) (reads p cell) .answer ≡ answered waits
-    → (let s = after calls (now calls shelf cs) (reads p cell) in
+    (p cell : ℕ) → p < shelf .n → made calls (reached calls shelf cs) (reads p cell) .answer ≡ answered waits
+    → (let s = after calls (reached calls shelf cs) (reads p cell) in
     (ds : List Call) → Run calls (shelf .n) s ds → shelf .n - 1 ≤ takesBy calls p s ds → ReadAnswered calls p cell s ds)
 
 -- "While no desk's turn number has reached its end" is a premise of the fourth part alone: the others are so from then on, too. (What is left of the

@@ -12,7 +12,7 @@ use Rattle.numbers.specs.Limits.{within}
 use Rattle.text.specs.declared.Decimal.{Decimal}
 use Rattle.text.specs.Decimal.{value}
 use Rattle.text.specs.Separated.{parts, firstPart, space}
-use Rattle.schedule.specs.Words.{is, isNumber, isContent, contentIn}
+use Rattle.schedule.specs.Words.{is, isNumber, isContentWord, contentOfWord}
 use Rattle.schedule.specs.declared.words.Number.{Number}
 use Rattle.schedule.specs.declared.words.Letter.{Letter}
 use Rattle.schedule.specs.declared.words.Given.{Given}
@@ -58,7 +58,7 @@ notBelowOf d =
     let ok = d .ok && leb (d .value) 2147483647 in
     record { ok = ok; content = cond ok (Day (pos (d .value))) Blank; end = d .end }
 
-unfoldable pub contentAt : List ℕ → ℕ → Given
-contentAt line from =
+unfoldable pub contentWordAt : List ℕ → ℕ → Given
+contentWordAt line from =
     let word = wordAt line from in
-    record { ok = isContent word; content = cond (isContent word) (contentIn word) Blank; end = from + length word }
+    record { ok = isContentWord word; content = cond (isContentWord word) (contentOfWord word) Blank; end = from + length word }

@@ -8,7 +8,7 @@ use mathlib.Core.Option.{Option, none, some}
 use Rattle.content.specs.declared.Content.{Content}
 use Rattle.text.specs.Decimal.{value}
 use Rattle.schedule.specs.Lines.{Line, ended, cut}
-use Rattle.schedule.specs.Words.{words, is, isNumber, isDesk, isContent, contentIn}
+use Rattle.schedule.specs.Words.{words, is, isNumber, isDesk, isContentWord, contentOfWord}
 use Rattle.schedule.specs.declared.Act as declared-act
 use Rattle.schedule.specs.declared.Act.the-variants as act
 use Rattle.schedule.specs.declared.Step as declared
@@ -34,8 +34,8 @@ writeIn n [] = none
 writeIn n (p ∷ []) = none
 writeIn n (p ∷ cell ∷ []) = none
 writeIn n (p ∷ cell ∷ c ∷ []) =
-    cond (isDesk n p && (isNumber cell && isContent c))
-    (some (record { desk = value p; act = writes (value cell) (contentIn c) }))
+    cond (isDesk n p && (isNumber cell && isContentWord c))
+    (some (record { desk = value p; act = writes (value cell) (contentOfWord c) }))
     none
 writeIn n (p ∷ cell ∷ c ∷ word ∷ words) = none
 

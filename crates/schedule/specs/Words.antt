@@ -36,20 +36,20 @@ unfoldable pub isDesk : ℕ → List ℕ → Bool
 isDesk n word = isNumber word && ltb (value word) n
 
 -- "for a day signed": -2,147,483,648 to 2,147,483,647
-unfoldable pub isDay : List ℕ → Bool
-isDay [] = false
-isDay (b ∷ bs) =
+unfoldable pub isDayWord : List ℕ → Bool
+isDayWord [] = false
+isDayWord (b ∷ bs) =
     cond (eqb b minus)
     (isDecimal bs && within 1 2147483648 (value bs))
     (isDecimal (b ∷ bs) && leb (value (b ∷ bs)) 2147483647)
 
-unfoldable pub dayIn : List ℕ → ℤ
-dayIn [] = pos 0
-dayIn (b ∷ bs) = cond (eqb b minus) (negsuc (value bs - 1)) (pos (value (b ∷ bs)))
+unfoldable pub dayOfWord : List ℕ → ℤ
+dayOfWord [] = pos 0
+dayOfWord (b ∷ bs) = cond (eqb b minus) (negsuc (value bs - 1)) (pos (value (b ∷ bs)))
 
 -- "day-or-`open`"
-unfoldable pub isContent : List ℕ → Bool
-isContent word = is "open" word || isDay word
+unfoldable pub isContentWord : List ℕ → Bool
+isContentWord word = is "open" word || isDayWord word
 
-unfoldable pub contentIn : List ℕ → Content
-contentIn word = cond (is "open" word) Open (Day (dayIn word))
+unfoldable pub contentOfWord : List ℕ → Content
+contentOfWord word = cond (is "open" word) Open (Day (dayOfWord word))

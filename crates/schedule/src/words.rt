@@ -2,7 +2,7 @@
 ghost use mathlib.Core.Path.{_≡_};
 ghost use Prim.Native.Nat.{_+_, _≤_};
 ghost use lib.ListN.{length, getD};
-ghost use Rattle.schedule.specs.Parts.{numberAt, letterAt, modeOf, openAt, belowOf, notBelowOf, contentAt};
+ghost use Rattle.schedule.specs.Parts.{numberAt, letterAt, modeOf, openAt, belowOf, notBelowOf, contentWordAt};
 use content::Content;
 use text::Decimal;
 
@@ -144,7 +144,7 @@ fn byte_at(line: &[u8], at: usize) -> u8
 // "day-or-`open`"
 pub(crate) fn content_at(line: &[u8], from: usize) -> Given
     requires { ⌜ from ≤ length (now line) + 3 ⌝ }
-    ensures { λ r. ⌜ r ≡ contentAt (now (line .entry)) from ⌝ }
+    ensures { λ r. ⌜ r ≡ contentWordAt (now (line .entry)) from ⌝ }
 {
     let first = byte_at(line, from);
     match first {

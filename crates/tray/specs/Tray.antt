@@ -16,12 +16,12 @@ use Rattle.tray.specs.declared.Place.{Place}
 use Rattle.tray.specs.declared.Place.the-variants as place
 
 -- where the place of desk q starts
-abbrev pub start : ℕ → ℕ
-start q = 398 * q
+abbrev pub placeStart : ℕ → ℕ
+placeStart q = 398 * q
 
 -- "sheet length (2)": its first two bytes
 abbrev pub lengthAt : List ℕ → ℕ → ℕ
-lengthAt tray q = at2 tray (start q)
+lengthAt tray q = at2 tray (placeStart q)
 
 -- "free if its first two bytes are zero"
 abbrev pub free : List ℕ → ℕ → Bool
@@ -29,10 +29,10 @@ free tray q = eqb (lengthAt tray q) 0
 
 -- "sheet", as long as the first two bytes say, and what follows it in the place
 abbrev pub sheetAt : List ℕ → ℕ → List ℕ
-sheetAt tray q = take (lengthAt tray q) (drop (start q + 2) tray)
+sheetAt tray q = take (lengthAt tray q) (drop (placeStart q + 2) tray)
 
 abbrev pub restAt : List ℕ → ℕ → List ℕ
-restAt tray q = take (396 - lengthAt tray q) (drop (start q + 2 + lengthAt tray q) tray)
+restAt tray q = take (396 - lengthAt tray q) (drop (placeStart q + 2 + lengthAt tray q) tray)
 
 abbrev pub zeros : List ℕ → Bool
 zeros [] = true
@@ -41,7 +41,7 @@ zeros (b ∷ bs) = eqb b 0 && zeros bs
 -- the tray has the place of desk q, and it holds a good sheet "followed by zeros" (01's table, 21)
 unfoldable pub holdsGood : List ℕ → ℕ → Bool
 holdsGood tray q =
-    leb (start q + 398) (length tray)
+    leb (placeStart q + 398) (length tray)
     && leb (lengthAt tray q) 396
     && good (sheetAt tray q)
     && zeros (restAt tray q)
@@ -65,8 +65,8 @@ placeBytes sheet = bytes 2 (length sheet) ++ sheet ++ replicate (396 - length sh
 -- the tray with a sheet in the place of desk q, all 398 bytes of it; as it is where the sheet is longer than any sheet, or the tray
 -- ends before the place does
 unfoldable pub heldIn : List ℕ → ℕ → List ℕ → List ℕ
-heldIn tray q sheet = cond (leb (length sheet) 396) (laidOver tray (start q) (placeBytes sheet)) tray
+heldIn tray q sheet = cond (leb (length sheet) 396) (laidOver tray (placeStart q) (placeBytes sheet)) tray
 
 -- the tray with the place of desk q all zeros
 unfoldable pub clearedIn : List ℕ → ℕ → List ℕ
-clearedIn tray q = laidOver tray (start q) (replicate 398 0)
+clearedIn tray q = laidOver tray (placeStart q) (replicate 398 0)

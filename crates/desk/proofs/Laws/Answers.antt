@@ -6,7 +6,7 @@ use mathlib.Core.Option.{none, some}
 use Rattle.answer.proofs.Laws.{again, apart}
 use Rattle.desk.specs.declared.Answer.{Answer}
 use Rattle.desk.specs.declared.Answer.the-variants as answers
-use Rattle.desk.specs.Answers.{Value, opened, stored, holds, waits, sent, held, taken, said}
+use Rattle.desk.specs.Answers.{Value, opened, stored, holds, waits, sent, held, taken, saidAnswer}
 use Rattle.desk.specs.Promises.{AnswersApart}
 
 answering : Value → Answer
@@ -19,7 +19,7 @@ answering held = answers.Held
 answering (taken t n k none) = answers.Taken t n k
 answering (taken t n k (some c)) = answers.TakenAndRead t n k c
 
-found : (a : Answer) → again answers.Refused answering (said a) ≡ a
+found : (a : Answer) → again answers.Refused answering (saidAnswer a) ≡ a
 unfolding answering
 found answers.Opened = refl
 found answers.Stored = refl
@@ -31,5 +31,5 @@ found (answers.Taken t n k) = refl
 found (answers.TakenAndRead t n k c) = refl
 found (answers.Refused k) = refl
 
-pub said-tells-apart : AnswersApart
-said-tells-apart a b = apart said (again answers.Refused answering) found
+pub saidAnswer-tells-apart : AnswersApart
+saidAnswer-tells-apart a b = apart saidAnswer (again answers.Refused answering) found

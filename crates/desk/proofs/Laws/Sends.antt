@@ -10,7 +10,7 @@ use lib.Dec.{eqb}
 use lib.IntN.{pos}
 use lib.ListN.{length, drop, replicate}
 use borrow.Author.Tests.{eqb-true, eqb-false}
-use Rattle.answer.specs.Answer.{Answer, Rule, refused, _if_, numberOf}
+use Rattle.answer.specs.Answer.{Answer, Rule, refused, _if_, firstNumber}
 use Rattle.answer.specs.Parts.{Numbered}
 use Rattle.answer.proofs.Laws.{silent-if-0, refused-only-if, answered-only-if, changed-if, unchanged-if, number-of-first, number-of-silent, first-is-some, numbered-both, first-of-both, second-of-both}
 use Rattle.layout.specs.declared.Numbers.{Numbers}
@@ -26,8 +26,7 @@ use Rattle.tray.proofs.Laws.Looking.{said-good, said-bad}
 use Rattle.pending.specs.declared.Sent.{Sent}
 use Rattle.pending.specs.declared.Sent.the-variants as sends
 use Rattle.pending.specs.Pending.{pendingEntries, sheetOf, roomRules, entriesSent, bufferWith, saidSent, Sends}
-use Rattle.refusals.specs.Rules.{lastTurn, trayRules, sheetRules}
-use Rattle.refusals.specs.Rules as rules
+use Rattle.refusals.specs.Rules.{lastTurn, sendTests, trayTests, sheetTests}
 use Rattle.refusals.proofs.Laws.Rules.{send-numbered, tray-numbered, sheet-numbered}
 use Rattle.desk.specs.declared.Desk.{Desk}
 use Rattle.desk.specs.declared.Answer as declared
@@ -41,7 +40,7 @@ use Rattle.desk.proofs.Laws.Writes.{call-carried-out, call-refused}
 
 module _ (d : Desk) (buf : List ℕ) where
   early : List Rule
-  early = rules.sendRules (sound d) (d .head)
+  early = sendTests (sound d) (d .head)
 
   sheet : List ℕ
   sheet = sheetOf (d .head) (d .pkind) (d .pday)
@@ -57,8 +56,8 @@ module _ (d : Desk) (buf : List ℕ) where
   unfolding early
   all-numbered = numbered-both early (roomRules (sheetOf (d .head) (d .pkind) (d .pday)) buf) early-numbered (omega arith, tt)
 
-  module _ {ok : Bool} {number : ℕ} (n : number ≡ numberOf (rules.sendRules ok (d .head))) (s : ok ≡ sound d) where
-    early-is : numberOf early ≡ number
+  module _ {ok : Bool} {number : ℕ} (n : number ≡ firstNumber (sendTests ok (d .head))) (s : ok ≡ sound d) where
+    early-is : firstNumber early ≡ number
     unfolding early
     early-is = sym (n ∙ rw s)
 
@@ -69,7 +68,7 @@ module _ (d : Desk) (buf : List ℕ) where
         (first-of-both early (roomRules sheet buf) number early-is h) h
 
     module _ (z : number ≡ 0) where
-      rest-is : numberOf (sendRules d buf) ≡ numberOf (roomRules sheet buf)
+      rest-is : firstNumber (sendRules d buf) ≡ firstNumber (roomRules sheet buf)
       unfolding early sheet
       rest-is = second-of-both early (roomRules sheet buf) early-numbered (early-is ∙ z)
 
@@ -102,7 +101,7 @@ refused-same j k e = cc
 
 module _ (d : Desk) (tray s : List ℕ) where
   first-two : List Rule
-  first-two = trayRules (sound d) (d .head) (length tray)
+  first-two = trayTests (sound d) (d .head) (length tray)
 
   two-numbered : Numbered first-two
   unfolding first-two
@@ -110,7 +109,7 @@ module _ (d : Desk) (tray s : List ℕ) where
 
   -- those of a good sheet
   of-sheet : List Rule
-  of-sheet = let x = numbersOf (trailerIn s) in sheetRules (d .head) x (free tray (x .sender))
+  of-sheet = let x = numbersOf (trailerIn s) in sheetTests (d .head) x (free tray (x .sender))
 
   deliver-numbered : Numbered (deliverRules d tray s)
   unfolding first-two of-sheet
@@ -121,8 +120,8 @@ module _ (d : Desk) (tray s : List ℕ) where
   after : List ℕ
   after = heldIn tray (trailerIn s .sender) s
 
-  module _ {ok : Bool} {number : ℕ} (n : number ≡ numberOf (trayRules ok (d .head) (length tray))) (is : ok ≡ sound d) where
-    two-are : numberOf first-two ≡ number
+  module _ {ok : Bool} {number : ℕ} (n : number ≡ firstNumber (trayTests ok (d .head) (length tray))) (is : ok ≡ sound d) where
+    two-are : firstNumber first-two ≡ number
     unfolding first-two
     two-are = sym (n ∙ rw is)
 
@@ -131,26 +130,26 @@ module _ (d : Desk) (tray s : List ℕ) where
     deliver-refused h =
         call-refused (deliverRules d tray s) d tray held d after number (first-of-both first-two (13 if not (good s) ∷ of-sheet) number two-are h) h
 
-    then-sheet : number ≡ 0 → numberOf (deliverRules d tray s) ≡ numberOf (13 if not (good s) ∷ of-sheet)
+    then-sheet : number ≡ 0 → firstNumber (deliverRules d tray s) ≡ firstNumber (13 if not (good s) ∷ of-sheet)
     unfolding first-two of-sheet
     then-sheet z = second-of-both first-two (13 if not (good s) ∷ of-sheet) two-numbered (two-are ∙ z)
 
     module _ (z : number ≡ 0) (r : Reading) (reads : sheets.saidRead s r ≡ sheets.readingOf s) where
       pub deliver-bad : (k : ℕ) → r ≡ reading.Refused k → outcome (record { answer = answers.Refused k; desk = d }) tray ≡ deliverOf d tray s
-      unfolding numberOf deliverOf of-sheet after
+      unfolding firstNumber deliverOf of-sheet after
       deliver-bad k e =
           let g : good s ≡ false = said-bad s r k e reads in
           let thirteen : k ≡ 13 = refused-same k 13 (sym (ap (sheets.saidRead s) e) ∙ reads ∙ bad-read s g) in
-          let same : numberOf (deliverRules d tray s) ≡ k = then-sheet z ∙ rw g (sym thirteen) in
+          let same : firstNumber (deliverRules d tray s) ≡ k = then-sheet z ∙ rw g (sym thirteen) in
           let some : k ≡ 0 → ⊥ = λ zero. omega (arith, thirteen, zero) in
           call-refused (deliverRules d tray s) d tray held d after k same some
 
-      module _ (x : Numbers) (e : r ≡ reading.Good x) {f : Bool} (fr : f ≡ free tray (x .sender)) {k : ℕ} (m : k ≡ numberOf (sheetRules (d .head) x f)) where
+      module _ (x : Numbers) (e : r ≡ reading.Good x) {f : Bool} (fr : f ≡ free tray (x .sender)) {k : ℕ} (m : k ≡ firstNumber (sheetTests (d .head) x f)) where
         is-good : (good s ≡ true) × (x ≡ numbersOf (trailerIn s))
         is-good = said-good s r x e reads
 
-        sheet-is : numberOf (deliverRules d tray s) ≡ k
-        unfolding numberOf of-sheet
+        sheet-is : firstNumber (deliverRules d tray s) ≡ k
+        unfolding firstNumber of-sheet
         sheet-is = then-sheet z ∙ rw (is-good .0) (sym (m ∙ rw (fr, is-good .1)))
 
         made : (t : Bool) → eqb k 0 ≡ t → outcome (record { answer = given k answers.Held; desk = d }) (heldIf (eqb k 0) tray (x .sender) s) ≡ deliverOf d tray s

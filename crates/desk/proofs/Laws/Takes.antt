@@ -16,7 +16,7 @@ use lib.Seq.{ext-getD, getD-take, getD-drop, length-take-le}
 use borrow.Author.Tests.{eqb-true, eqb-false, le-leb, not-false}
 use mir.Syntax.{w8}
 use mir.Val.{Fits}
-use Rattle.answer.specs.Answer.{Rule, answered, numberOf}
+use Rattle.answer.specs.Answer.{Rule, answered, firstNumber}
 use Rattle.answer.specs.Promises.{Silent}
 use Rattle.answer.specs.Parts.{Numbered}
 use Rattle.answer.proofs.Laws.{silent-if-0, changed-if, numbered-both, first-of-both, second-of-both}
@@ -29,16 +29,16 @@ use Rattle.sheet.proofs.Laws.Good.{good-length}
 use Rattle.cells.specs.Cells.{contentAt}
 use Rattle.sound.specs.declared.Head.{Head}
 use Rattle.sound.specs.Head.{causal, turnDesk, waitCell}
-use Rattle.tray.specs.Tray.{start, lengthAt, sheetAt, holdsGood, clearedIn}
+use Rattle.tray.specs.Tray.{placeStart, lengthAt, sheetAt, holdsGood, clearedIn}
 use Rattle.tray.proofs.Laws.Places.{place-there, holds-says}
-use Rattle.applying.specs.Applying.{goes, wentOf, entriesIn, Applies}
+use Rattle.applying.specs.Applying.{goes, wentOf, entriesIn, AppliesEntries}
 use Rattle.refusals.specs.declared.Looked.{Looked}
-use Rattle.refusals.specs.Rules.{lastTurn, trayRules, turnRules, placeRules, lookedAt}
+use Rattle.refusals.specs.Rules.{lastTurn, trayTests, turnTests, placeTests, lookedAt}
 use Rattle.refusals.proofs.Laws.Rules.{tray-numbered, turn-numbered, place-numbered}
 use Rattle.desk.specs.declared.Desk.{Desk}
 use Rattle.desk.specs.declared.Answer as declared
 use Rattle.desk.specs.declared.Answer.the-variants as answers
-use Rattle.desk.specs.Answers.{Value, taken, said, outcome}
+use Rattle.desk.specs.Answers.{Value, taken, saidAnswer, outcome}
 use Rattle.desk.specs.Calls.{sound, nextHead, takeRules, entriesTaken, readEnds, takenDesk, waitedFor, takeOf}
 use Rattle.desk.specs.Parts.{takenAnswer}
 use Rattle.desk.proofs.Laws.Allowed.{desk-says, TakeAllowed, take-allows}
@@ -62,34 +62,34 @@ module _ (k : ℕ) (l : List ℕ) where
       entry-of-entries n i (take k l) noEntry below ∙ entry-there (6 * i) (omega arith) ∙ sym (entry-of-entries n i l noEntry below))
 
 pub taken-entries : (tray : List ℕ) (q : ℕ) → holdsGood tray q ≡ true
-    → entriesIn (drop (start q + 2) tray) (trailerIn (sheetAt tray q) .entries) ≡ entriesOf (trailerIn (sheetAt tray q) .entries) (sheetAt tray q)
+    → entriesIn (drop (placeStart q + 2) tray) (trailerIn (sheetAt tray q) .entries) ≡ entriesOf (trailerIn (sheetAt tray q) .entries) (sheetAt tray q)
 taken-entries tray q e =
     let h = holds-says tray q e in
     let n = trailerIn (sheetAt tray q) .entries in
-    let l = drop (start q + 2) tray in
-    let room : lengthAt tray q ≤ length l = omega (arith, h .room, h .few, length-drop (start q + 2) tray) in
+    let l = drop (placeStart q + 2) tray in
+    let room : lengthAt tray q ≤ length l = omega (arith, h .room, h .few, length-drop (placeStart q + 2) tray) in
     let long : lengthAt tray q ≡ 6 * n + 12 = sym (length-take-le (lengthAt tray q) l room) ∙ good-length (sheetAt tray q) (h .sheet-good) in
     rw (le-leb (6 * n + 12) (length l) (omega arith)) (sym (entries-there (lengthAt tray q) l n (omega arith)))
 
 -- ---- take
 
 -- what the answer says
-said-taken : (turn entries applied : ℕ) (over : Bool) (c : Content) → said (takenAnswer turn entries applied over c) ≡ answered (taken turn entries applied (cond over (some c) none))
+said-taken : (turn entries applied : ℕ) (over : Bool) (c : Content) → saidAnswer (takenAnswer turn entries applied over c) ≡ answered (taken turn entries applied (cond over (some c) none))
 unfolding takenAnswer
 said-taken turn entries applied true c = refl
 said-taken turn entries applied false c = refl
 
 module _ (d : Desk) (tray : List ℕ) where
   early : List Rule
-  early = trayRules (sound d) (d .head) (length tray) ++ turnRules (d .head)
+  early = trayTests (sound d) (d .head) (length tray) ++ turnTests (d .head)
 
   early-numbered : Numbered early
   unfolding early
-  early-numbered = numbered-both (trayRules (sound d) (d .head) (length tray)) (turnRules (d .head)) (tray-numbered (sound d) (d .head) (length tray)) (turn-numbered (d .head))
+  early-numbered = numbered-both (trayTests (sound d) (d .head) (length tray)) (turnTests (d .head)) (tray-numbered (sound d) (d .head) (length tray)) (turn-numbered (d .head))
 
   -- those of the place of the desk whose turn it is
   of-place : List Rule
-  of-place = placeRules (d .head) tray (turnDesk (d .head))
+  of-place = placeTests (d .head) tray (turnDesk (d .head))
 
   of-place-numbered : Numbered of-place
   unfolding of-place
@@ -102,8 +102,8 @@ module _ (d : Desk) (tray : List ℕ) where
   value : Value
   value = taken (d .head .turn) (length (entriesTaken d tray)) (wentOf (goes (causal (d .head)) (d .pkind)) (entriesTaken d tray)) (waitedFor (d .head) (takenDesk d (entriesTaken d tray)))
 
-  module _ {ok : Bool} {number : ℕ} (n : number ≡ numberOf (trayRules ok (d .head) (length tray) ++ turnRules (d .head))) (is : ok ≡ sound d) where
-    early-is : numberOf early ≡ number
+  module _ {ok : Bool} {number : ℕ} (n : number ≡ firstNumber (trayTests ok (d .head) (length tray) ++ turnTests (d .head))) (is : ok ≡ sound d) where
+    early-is : firstNumber early ≡ number
     unfolding early
     early-is = sym (n ∙ rw is)
 
@@ -135,15 +135,15 @@ module _ (d : Desk) (tray : List ℕ) where
       unfolding early
       long = eqb-true (length tray) (398 * d .head .n) (not-false _ (silent .1 .0))
 
-      pub take-room : {q : ℕ} → q ≡ turnDesk (d .head) → start q + 2 ≤ length tray
+      pub take-room : {q : ℕ} → q ≡ turnDesk (d .head) → placeStart q + 2 ≤ length tray
       take-room e = let there = place-there tray (d .head .n) (turnDesk (d .head)) long desk-below in omega (arith, e, there)
 
       module _ {q : ℕ} (qis : q ≡ turnDesk (d .head)) {l : Looked} (looks : l ≡ lookedAt (d .head) tray q) where
-        place-is : numberOf of-place ≡ l .number
+        place-is : firstNumber of-place ≡ l .number
         unfolding of-place lookedAt
         place-is = rw (looks, qis)
 
-        rest-is : numberOf (takeRules d tray) ≡ l .number
+        rest-is : firstNumber (takeRules d tray) ≡ l .number
         unfolding early of-place
         rest-is = second-of-both early of-place early-numbered (early-is ∙ z) ∙ place-is
 
@@ -162,7 +162,7 @@ module _ (d : Desk) (tray : List ℕ) where
               rw (looks, qis)
               (changed-if of-place 0 (trailerIn (sheetAt tray (turnDesk (d .head))) .entries) (silent-if-0 of-place of-place-numbered (place-is ∙ found)))
 
-          these : entriesIn (drop (start q + 2) tray) (l .entries) ≡ entriesTaken d tray
+          these : entriesIn (drop (placeStart q + 2) tray) (l .entries) ≡ entriesTaken d tray
           these = rw (qis, count) (taken-entries tray (turnDesk (d .head)) (allowed .holds-good))
 
           number-of-entries : l .entries ≡ length (entriesTaken d tray)
@@ -170,7 +170,7 @@ module _ (d : Desk) (tray : List ℕ) where
 
           pub took :
               {kind′ : List ℕ} {day′ : List ℤ} {went cell wait : ℕ} {over : Bool} {c : Content} {h′ : Head} {tray′ : List ℕ} {a : declared.Answer}
-              → Applies (causal (d .head)) (d .pkind) (entriesIn (drop (start q + 2) tray) (l .entries)) (d .kind) (d .day) went kind′ day′
+              → AppliesEntries (causal (d .head)) (d .pkind) (entriesIn (drop (placeStart q + 2) tray) (l .entries)) (d .kind) (d .day) went kind′ day′
               → over ≡ readEnds (d .head) → cell ≡ waitCell (d .head) → c ≡ contentAt kind′ day′ cell → wait ≡ cond over 0 (d .head .wait)
               → h′ ≡ nextHead (d .head) wait → tray′ ≡ clearedIn tray q → a ≡ takenAnswer (d .head .turn) (l .entries) went over c
               → outcome (record { answer = a; desk = record { head = h′; kind = kind′; day = day′; pkind = d .pkind; pday = d .pday } }) tray′ ≡ takeOf d tray
@@ -183,8 +183,8 @@ module _ (d : Desk) (tray : List ℕ) where
               let heads : h′ ≡ after .head = h-is ∙ rw (wait-is, over-is) in
               let trays : tray′ ≡ clearedIn tray (turnDesk (d .head)) = tray-is ∙ rw qis in
               let shown : c ≡ contentAt (after .kind) (after .day) (waitCell (d .head)) = c-is ∙ rw (cell-is, kinds, days) in
-              let answers-so : said a ≡ answered value =
-              ap said a-is ∙ said-taken (d .head .turn) (l .entries) went over c ∙ rw (number-of-entries, counted, over-is, shown)
+              let answers-so : saidAnswer a ≡ answered value =
+              ap saidAnswer a-is ∙ said-taken (d .head .turn) (l .entries) went over c ∙ rw (number-of-entries, counted, over-is, shown)
               in
               (λ i.
               record {

@@ -14,7 +14,7 @@ use mir.Syntax.{w32}
 use mir.Val.{toZ, ofZ}
 use mir.Facts.{toZ-ofZ}
 use borrow.Author.Tests.{eqb-true, eqb-false, lt-ltb}
-use Rattle.answer.specs.Answer.{Rule, refused, answered, numberOf}
+use Rattle.answer.specs.Answer.{Rule, refused, answered, firstNumber}
 use Rattle.answer.specs.Parts.{Numbered}
 use Rattle.answer.proofs.Laws.{silent-if-0, first-if-number, answered-if, changed-if, refused-if, unchanged-if}
 use Rattle.content.specs.declared.Content.{Content}
@@ -22,7 +22,7 @@ use Rattle.content.specs.Content.{kindOf, dayOf}
 use Rattle.cells.specs.Cells.{contentAt, putIf}
 use Rattle.cells.proofs.Laws.{put-off}
 use Rattle.sound.specs.declared.Head.{Head}
-use Rattle.refusals.specs.Rules as rules
+use Rattle.refusals.specs.Rules.{writeTests, readTests}
 use Rattle.refusals.proofs.Laws.Rules.{open-numbered, write-numbered, read-numbered}
 use Rattle.desk.specs.declared.Desk.{Desk}
 use Rattle.desk.specs.declared.Outcome.{Outcome}
@@ -37,13 +37,13 @@ use Rattle.desk.proofs.Laws.Steps.{waits-are}
 -- ---- a call by its number
 
 -- what any call comes to where the first rule that applies has the number `number`: 0, or a refusal's
-pub call-carried-out : (rules : List Rule) → Numbered rules → (d : Desk) (lent : List ℕ) (v : Value) (d′ : Desk) (lent′ : List ℕ) → numberOf rules ≡ 0
+pub call-carried-out : (rules : List Rule) → Numbered rules → (d : Desk) (lent : List ℕ) (v : Value) (d′ : Desk) (lent′ : List ℕ) → firstNumber rules ≡ 0
     → _≡_ {A = Done} (record { answer = answered v; desk = d′; lent = lent′ }) (call rules d lent v d′ lent′)
 call-carried-out rules some d lent v d′ lent′ e =
     let silent = silent-if-0 rules some e in
     λ i. record { answer = sym (answered-if rules v silent) i; desk = sym (changed-if rules d d′ silent) i; lent = sym (changed-if rules lent lent′ silent) i }
 
-pub call-refused : (rules : List Rule) (d : Desk) (lent : List ℕ) (v : Value) (d′ : Desk) (lent′ : List ℕ) (k : ℕ) → numberOf rules ≡ k → (k ≡ 0 → ⊥)
+pub call-refused : (rules : List Rule) (d : Desk) (lent : List ℕ) (v : Value) (d′ : Desk) (lent′ : List ℕ) (k : ℕ) → firstNumber rules ≡ k → (k ≡ 0 → ⊥)
     → _≡_ {A = Done} (record { answer = refused k; desk = d; lent = lent }) (call rules d lent v d′ lent′)
 call-refused rules d lent v d′ lent′ k e h =
     let first = first-if-number rules k e h in
@@ -69,7 +69,7 @@ module _ (d : Desk) (cell : ℕ) (c : Content) where
         };
       }
 
-  write-made : (n : ℕ) (t : Bool) → eqb n 0 ≡ t → numberOf (writeRules d cell c) ≡ n → outcome (made n) [] ≡ writeOf d cell c
+  write-made : (n : ℕ) (t : Bool) → eqb n 0 ≡ t → firstNumber (writeRules d cell c) ≡ n → outcome (made n) [] ≡ writeOf d cell c
   unfolding writeOf given
   write-made n true p e =
       rw p (call-carried-out (writeRules d cell c) numbered d [] stored (writtenDesk d cell c) [] (e ∙ eqb-true n 0 p))
@@ -79,7 +79,7 @@ module _ (d : Desk) (cell : ℕ) (c : Content) where
 
   pub written :
       {ok : Bool} {number kind : ℕ} {day : ℤ} {a : declared.Answer} {ks pks : List ℕ} {ds pds : List ℤ}
-      → a ≡ given number answers.Stored → number ≡ numberOf (rules.writeRules ok (d .head) cell kind) → ok ≡ sound d → kind ≡ kindOf c
+      → a ≡ given number answers.Stored → number ≡ firstNumber (writeTests ok (d .head) cell kind) → ok ≡ sound d → kind ≡ kindOf c
       → ks ≡ putIf (eqb number 0) (d .kind) cell kind → ds ≡ putIf (eqb number 0) (d .day) cell day
       → pks ≡ putIf (eqb number 0) (d .pkind) cell kind → pds ≡ putIf (eqb number 0) (d .pday) cell day
       → day ≡ dayOf c
@@ -95,7 +95,7 @@ handed {z = z} h e = toZ-ofZ {w = w32} {z = z} (record { sfits = h }) ∙ e
 
 module _ (n m own mode : ℕ) where
   -- what an open that is carried out has been given fits a record
-  pub open-fits : {number : ℕ} → number ≡ numberOf (openRules n m own mode) → number ≡ 0 → (n < 256) × ((m < 256) × ((own < 256) × (mode < 256)))
+  pub open-fits : {number : ℕ} → number ≡ firstNumber (openRules n m own mode) → number ≡ 0 → (n < 256) × ((m < 256) × ((own < 256) × (mode < 256)))
   open-fits e z =
       let allowed = open-allows n m own mode (silent-if-0 (openRules n m own mode) (open-numbered n m own mode) (sym e ∙ z)) in
       (omega (arith, allowed .desks-most), (omega (arith, allowed .cells-most), (omega (arith, allowed .own-below, allowed .desks-most), omega (arith, allowed .mode-most))))
@@ -103,14 +103,14 @@ module _ (n m own mode : ℕ) where
   abbrev opened-with : ℕ → Outcome
   opened-with k = record { answer = given k answers.Opened; desk = blankDesk (openedHead k n m own mode) }
 
-  open-made : (k : ℕ) (t : Bool) → eqb k 0 ≡ t → numberOf (openRules n m own mode) ≡ k → outcome (opened-with k) [] ≡ openOf n m own mode
+  open-made : (k : ℕ) (t : Bool) → eqb k 0 ≡ t → firstNumber (openRules n m own mode) ≡ k → outcome (opened-with k) [] ≡ openOf n m own mode
   unfolding openOf given openedHead
   open-made k true p e =
       rw p (call-carried-out (openRules n m own mode) (open-numbered n m own mode) (blankDesk (freshHead 0 0 0 0)) [] opened (blankDesk (freshHead n m own (modeFor mode))) [] (e ∙ eqb-true k 0 p))
   open-made k false p e =
       rw p (call-refused (openRules n m own mode) (blankDesk (freshHead 0 0 0 0)) [] opened (blankDesk (freshHead n m own (modeFor mode))) [] k e (eqb-false k 0 p))
 
-  pub opened-so : {number : ℕ} {a : declared.Answer} {h : Head} → a ≡ given number answers.Opened → h ≡ openedHead number n m own mode → number ≡ numberOf (openRules n m own mode)
+  pub opened-so : {number : ℕ} {a : declared.Answer} {h : Head} → a ≡ given number answers.Opened → h ≡ openedHead number n m own mode → number ≡ firstNumber (openRules n m own mode)
       → outcome (record { answer = a; desk = blankDesk h }) [] ≡ openOf n m own mode
   opened-so {number = number} a h e = rw (a, h) (open-made number (eqb number 0) refl (sym e))
 
@@ -131,12 +131,12 @@ module _ (d : Desk) (cell : ℕ) where
         desk = record { head = withWait (waitAt w (d .head .wait) cell); kind = d .kind; day = d .day; pkind = d .pkind; pday = d .pday };
       }
 
-  cell-below : numberOf (readRules d cell) ≡ 0 → cell < 64
+  cell-below : firstNumber (readRules d cell) ≡ 0 → cell < 64
   cell-below e =
       let allowed = read-allows d cell (silent-if-0 (readRules d cell) some-number e) in
       omega (arith, allowed .cell-below, desk-says d (allowed .is-sound) .cells-most)
 
-  read-made : (k : ℕ) (t u : Bool) → eqb k 0 ≡ t → mustWait d cell ≡ u → numberOf (readRules d cell) ≡ k
+  read-made : (k : ℕ) (t u : Bool) → eqb k 0 ≡ t → mustWait d cell ≡ u → firstNumber (readRules d cell) ≡ k
       → outcome (read-with k (eqb k 0 && mustWait d cell)) [] ≡ readOf d cell
   unfolding readOf given readAnswer waitAt
   read-made k true true p q e =
@@ -150,7 +150,7 @@ module _ (d : Desk) (cell : ℕ) where
 
   pub read-so :
       {ok w : Bool} {number wait : ℕ} {c : Content} {a b : declared.Answer}
-      → a ≡ given number b → b ≡ readAnswer w c → wait ≡ waitAt w (d .head .wait) cell → number ≡ numberOf (rules.readRules ok (d .head) cell) → ok ≡ sound d
+      → a ≡ given number b → b ≡ readAnswer w c → wait ≡ waitAt w (d .head .wait) cell → number ≡ firstNumber (readTests ok (d .head) cell) → ok ≡ sound d
       → w ≡ (eqb number 0 && waitsFor (d .head) (d .pkind) cell) → c ≡ contentAt (d .kind) (d .day) cell
       → outcome (record { answer = a; desk = record { head = withWait wait; kind = d .kind; day = d .day; pkind = d .pkind; pday = d .pday } }) [] ≡ readOf d cell
   read-so {number = number} a b t n s w c =

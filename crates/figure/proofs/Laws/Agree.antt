@@ -10,7 +10,7 @@ use mathlib.Core.Option.{some, Option·some-ne-none}
 use lib.Dec.{eqb}
 use borrow.Author.Tests.{eqb-true, eqb-false, ne-eqb}
 use Rattle.figure.specs.Figure1.{Model, Updates, ∅, remove, assign, Assigned, Loop, ends, assigns, passes}
-use Rattle.figure.specs.Promises.{SameEnd, LoopsAgree}
+use Rattle.figure.specs.Settled.{SameEnd, LoopsAgree}
 
 -- ---- two extractions, and two assignments, in either order
 

@@ -1,23 +1,26 @@
 -- An open that is carried out is Figure 1's initialization.
 -- Assumes nothing.
 use Prim.Native.Nat.{ℕ}
-use mathlib.Core.Path.{_≡_, refl, sym, _∙_, fun-ext, subst₂}
+use mathlib.Core.Path.{_≡_, refl, sym, _∙_, fun-ext}
 use mathlib.Core.Bool.{Bool, true, false}
-use mathlib.Core.List.{List}
+use mathlib.Core.List.{List, []}
 use mathlib.Core.Option.{none}
 use native.Mathlib.Nat.{zero-mod}
 use lib.Dec.{ltb}
 use lib.ListN.{replicate, getD-replicate}
 use borrow.Author.Tests.{ltb-true, ltb-false}
-use Rattle.answer.proofs.Laws.{answered-only-if, changed-if}
+use Rattle.answer.proofs.Laws.{answered-if}
 use Rattle.cells.specs.Cells.{placeAt}
 use Rattle.cells.proofs.Laws.{in-place, no-place}
 use Rattle.desk.specs.declared.Desk.{Desk}
-use Rattle.desk.specs.Answers.{Value, opened}
-use Rattle.desk.specs.Calls.{openRules, blankDesk, freshHead, modeFor, openOf}
+use Rattle.desk.specs.Answers.{opened}
+use Rattle.desk.specs.Calls.{sound, openRules, blankDesk, freshHead, modeFor, openOf}
+use Rattle.desk.specs.Values.{DeskFits}
+use Rattle.keeping.proofs.Laws.Open.{open-sound, open-fits}
 use Rattle.figure.specs.Figure1.{initial}
 use Rattle.figure.specs.Map.{neverWritten, processOf, received}
-use Rattle.figure.specs.Promises.{OpenSteps, initializes, OpenInitializes}
+use Rattle.figure.specs.Demand2.{ByRules, Initialization, zeros}
+use Rattle.figure.proofs.Laws.ByRules.{by-call, next}
 use Rattle.figure.proofs.Laws.Maps.{same-process}
 
 -- every place of 64 that are alike is the same
@@ -32,12 +35,24 @@ fresh-process : (n m own mode : ℕ) (tray : List ℕ) → received tray ≡ (λ
 fresh-process n m own mode tray clear =
     same-process (fun-ext (λ x. rw (alike {A = ℕ} 0 x))) (fun-ext (λ x. rw (alike {A = ℕ} 0 x))) (zero-mod n) refl clear
 
-pub open-initializes : OpenInitializes
+pub open-by-rules : (n m own mode : ℕ) → ByRules (openRules n m own mode) zeros [] (Initialization n m own mode) (openOf n m own mode)
 unfolding openOf
-open-initializes n m own mode v e =
+open-by-rules n m own mode =
     let rules = openRules n m own mode in
-    let zeros = blankDesk (freshHead 0 0 0 0) in
     let fresh = blankDesk (freshHead n m own (modeFor mode)) in
-    let carried-out = answered-only-if rules opened v e in
-    subst₂ (λ (d : Desk) (x : Value). OpenSteps n m own mode d x) (sym (changed-if rules zeros fresh (carried-out .0))) (carried-out .1)
-    (initializes (record { process = fresh-process n m own (modeFor mode); desks = refl; cells = refl; own-number = refl; mode-number = refl; turn-number = refl }))
+    by-call rules zeros [] opened fresh [] (Initialization n m own mode)
+    (λ silent.
+    record {
+      answer = refl;
+      process = fresh-process n m own (modeFor mode);
+      keeps = record {
+        desks = refl;
+        cells = refl;
+        own-number = refl;
+        mode-number = refl;
+        turn-number = refl;
+        is-sound = next (λ (x : Desk). sound x ≡ true) rules zeros fresh silent (open-sound n m own mode (answered-if rules opened silent));
+        fits = next DeskFits rules zeros fresh silent (open-fits n m own mode);
+      };
+      none-lent = refl;
+    })

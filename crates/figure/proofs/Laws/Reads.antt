@@ -2,27 +2,29 @@
 --   waits-if, waits-only-if        01's test of a read that waits is Figure 1's
 -- Assumes nothing.
 use Prim.Native.Nat.{ℕ, _+_, _-_}
-use mathlib.Core.Path.{_≡_, refl, sym, ap, _∙_, subst, subst₂}
+use mathlib.Core.Path.{_≡_, refl, sym, ap, _∙_, subst}
 use mathlib.Core.Bool.{Bool, true, false, cond, not, false≢true}
-use mathlib.Core.List.{List}
+use mathlib.Core.List.{List, []}
 use mathlib.Core.Option.{none, some, Option·some-ne-none}
 use native.Mathlib.Omega.{arith}
 use lib.Dec.{eqb}
 use borrow.Author.Tests.{eqb-false, ne-eqb, not-true}
-use Rattle.answer.specs.Answer.{Rule}
+use Rattle.answer.specs.Answer.{Rule, answered}
 use Rattle.answer.specs.Promises.{Silent}
-use Rattle.answer.proofs.Laws.{answered-only-if, changed-if}
 use Rattle.content.specs.declared.Content.{Content}
 use Rattle.cells.specs.Cells.{contentAt, blank, filled, anywhere}
 use Rattle.sheet.proofs.Laws.Bools.{and-split}
 use Rattle.sound.specs.Head.{ownTurn, turnDesk, readWaits}
 use Rattle.desk.specs.declared.Desk.{Desk}
-use Rattle.desk.specs.Answers.{Value, holds, waits}
-use Rattle.desk.specs.Calls.{readRules, mustWait, waitingDesk, readOf}
+use Rattle.desk.specs.Answers.{Value, Done, holds, waits}
+use Rattle.desk.specs.Calls.{sound, readRules, mustWait, waitingDesk, readOf}
+use Rattle.desk.specs.Values.{DeskFits}
 use Rattle.desk.proofs.Laws.Allowed.{read-allows}
-use Rattle.figure.specs.Figure1.{Model, sequential, causal, cache, ∅, Waits, blocks, read, block}
+use Rattle.keeping.proofs.Laws.Read.{read-sound, read-fits}
+use Rattle.figure.specs.Figure1.{Model, sequential, causal, cache, ∅, Waits, Event, reads, blocks, read, block}
 use Rattle.figure.specs.Map.{modelOf, processOf}
-use Rattle.figure.specs.Promises.{StepOf, ReadSteps, returns, begins-to-wait, ReadIsAStep}
+use Rattle.figure.specs.Demand2.{ByRules, StepOf, Next, ReadShows, returns, begins-to-wait, ReadStep}
+use Rattle.figure.proofs.Laws.ByRules.{by-call, next}
 use Rattle.figure.proofs.Laws.Maps.{no-updates, some-updates, same-process}
 
 -- ---- models
@@ -93,31 +95,64 @@ not-blocked d tray e = rw e
 blocked-at : (d : Desk) (tray : List ℕ) (cell : ℕ) → some cell ≡ processOf (waitingDesk d cell) tray .blocked
 blocked-at d tray cell = let other : cell + 1 ≡ 0 → ⊥ = λ z. omega (arith, z) in let back : cell + 1 - 1 ≡ cell = omega arith in rw (ne-eqb (cell + 1) 0 other, back)
 
-pub read-is-a-step : ReadIsAStep
-unfolding readOf
-read-is-a-step d tray cell v e =
-    subst₂ (λ (after : Desk) (x : Value). ReadSteps d tray cell after x) (sym (changed-if rules d (cond (mustWait d cell) (waitingDesk d cell) d) silent)) (carried-out .1)
-    (by-test (mustWait d cell) refl)
-  where
-    rules : List Rule
-    rules = readRules d cell
+module _ (d : Desk) (cell : ℕ) (fits : DeskFits d) where
+  abbrev rules : List Rule
+  rules = readRules d cell
 
-    shown : Content
-    shown = contentAt (d .kind) (d .day) cell
+  abbrev shown : Content
+  shown = contentAt (d .kind) (d .day) cell
 
-    carried-out : Silent rules × (cond (mustWait d cell) waits (holds shown) ≡ v)
-    carried-out = answered-only-if rules (cond (mustWait d cell) waits (holds shown)) v e
+  abbrev value : Value
+  value = cond (mustWait d cell) waits (holds shown)
 
-    silent : Silent rules
-    silent = carried-out .0
+  abbrev event : Event Content
+  event = cond (mustWait d cell) (blocks cell) (reads cell shown)
 
-    quiet : processOf d tray .blocked ≡ none
-    quiet = not-blocked d tray (read-allows d cell silent .none-waits)
+  abbrev after : Desk
+  after = cond (mustWait d cell) (waitingDesk d cell) d
 
-    by-test : (t : Bool) → mustWait d cell ≡ t
-        → ReadSteps d tray cell (cond (mustWait d cell) (waitingDesk d cell) d) (cond (mustWait d cell) waits (holds shown))
-    by-test true p =
-        rw p
-        (begins-to-wait (subst (StepOf d (processOf d tray) (blocks cell)) (same-process refl refl refl (blocked-at d tray cell) refl)
-        (block (processOf d tray) cell quiet (waits-only-if d tray cell p))))
-    by-test false p = rw p (returns shown (read (processOf d tray) cell quiet (λ w. false≢true (sym p ∙ waits-if d tray cell w))))
+  shows : ReadShows cell value event
+  shows = by-test (mustWait d cell) refl
+    where
+      by-test : (t : Bool) → mustWait d cell ≡ t → ReadShows cell value event
+      by-test true p = rw p begins-to-wait
+      by-test false p = rw p (returns shown)
+
+  read-step : Silent rules → (tray : List ℕ) → StepOf d (processOf d tray) event (processOf after tray)
+  read-step silent tray = by-test (mustWait d cell) refl
+    where
+      quiet : processOf d tray .blocked ≡ none
+      quiet = not-blocked d tray (read-allows d cell silent .none-waits)
+
+      by-test : (t : Bool) → mustWait d cell ≡ t → StepOf d (processOf d tray) event (processOf after tray)
+      by-test true p =
+          rw p
+          (subst (StepOf d (processOf d tray) (blocks cell)) (same-process refl refl refl (blocked-at d tray cell) refl)
+          (block (processOf d tray) cell quiet (waits-only-if d tray cell p)))
+      by-test false p = rw p (read (processOf d tray) cell quiet (λ w. false≢true (sym p ∙ waits-if d tray cell w)))
+
+  keeps : sound after ≡ true → DeskFits after → Next d (d .head .turn) after
+  keeps is-sound fits = by-test (mustWait d cell) refl is-sound fits
+    where
+      by-test : (t : Bool) → mustWait d cell ≡ t → sound after ≡ true → DeskFits after → Next d (d .head .turn) after
+      by-test true p s f =
+          record { desks = rw p; cells = rw p; own-number = rw p; mode-number = rw p; turn-number = rw p; is-sound = s; fits = f }
+      by-test false p s f =
+          record { desks = rw p; cells = rw p; own-number = rw p; mode-number = rw p; turn-number = rw p; is-sound = s; fits = f }
+
+  pub read-by-rules : ByRules rules d [] (ReadStep d cell) (readOf d cell)
+  unfolding readOf
+  read-by-rules =
+      by-call rules d [] value after [] (ReadStep d cell)
+      (λ silent.
+      record {
+        value = value;
+        answer = refl;
+        event = event;
+        shows = shows;
+        step = read-step silent;
+        keeps = keeps
+            (next (λ (x : Desk). sound x ≡ true) rules d after silent (read-sound d cell fits (read-allows d cell silent .is-sound)))
+            (next DeskFits rules d after silent (read-fits d cell fits));
+        none-lent = refl;
+      })

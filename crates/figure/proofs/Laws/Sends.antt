@@ -2,7 +2,7 @@
 --   pending-carried          the pending entries, as a set, are updates_p
 -- Assumes nothing.
 use Prim.Native.Nat.{ℕ, zero, suc, _<_, _≤_}
-use mathlib.Core.Path.{_≡_, refl, sym, ap, _∙_, fun-ext, subst, subst₂}
+use mathlib.Core.Path.{_≡_, refl, sym, ap, _∙_, fun-ext, subst}
 use mathlib.Core.Bool.{Bool, true, false, cond, not}
 use mathlib.Core.List.{List, [], _∷_, _++_}
 use mathlib.Core.Option.{Option, none, some}
@@ -15,8 +15,6 @@ use mir.Syntax.{w32}
 use mir.Val.{SFits}
 use mir.Facts.{toZ-ofZ}
 use borrow.Author.Tests.{eqb-true, eqb-false, ltb-true, ltb-false, lt-ltb, le-ltb}
-use Rattle.answer.specs.Promises.{Silent}
-use Rattle.answer.proofs.Laws.{answered-only-if, changed-if}
 use Rattle.content.specs.declared.Content.{Content}
 use Rattle.content.specs.Content.{contentOf}
 use Rattle.layout.specs.declared.Entry.{Entry}
@@ -25,17 +23,20 @@ use Rattle.cells.specs.Cells.{kindAt, dayAt, contentAt, filled}
 use Rattle.cells.proofs.Laws.{no-place}
 use Rattle.sound.specs.Head.{turnDesk, ownTurn, readWaits}
 use Rattle.sound.proofs.Laws.Sound.{Sound}
+use Rattle.pending.proofs.Laws.Bytes.{sheet-bytes}
 use Rattle.pending.specs.Pending.{entryIn, pendingBelow, pendingEntries, sheetOf}
 use Rattle.refusals.specs.Rules.{lastTurn}
 use Rattle.desk.specs.declared.Desk.{Desk}
-use Rattle.desk.specs.Answers.{Value, sent}
-use Rattle.desk.specs.Calls.{sendRules, sentDesk, sendOf}
+use Rattle.desk.specs.Answers.{sent}
+use Rattle.desk.specs.Calls.{sound, sendRules, sentDesk, sendOf}
 use Rattle.desk.specs.Values.{DeskFits}
 use Rattle.desk.proofs.Laws.Allowed.{desk-says, send-allows}
+use Rattle.keeping.proofs.Laws.Send.{send-sound, send-fits}
 use Rattle.keeping.proofs.Laws.Sheets.{sheet-read, sheet-entries}
 use Rattle.figure.specs.Figure1.{broadcasts, send}
 use Rattle.figure.specs.Map.{processOf, updatesOf, updatesIn, carried}
-use Rattle.figure.specs.Promises.{StepOf, SendStep, SendSteps, sends, SendIsAStep}
+use Rattle.figure.specs.Demand2.{ByRules, StepOf, SendStep}
+use Rattle.figure.proofs.Laws.ByRules.{by-call, next}
 use Rattle.figure.proofs.Laws.Maps.{same-process}
 use Rattle.figure.proofs.Laws.Opens.{alike}
 
@@ -130,28 +131,34 @@ module _ (d : Desk) (fits : DeskFits d) (s : Sound (d .head) (d .kind) (d .day) 
       (same-process refl (sym (fun-ext (λ x. rw (alike {A = ℕ} 0 x)))) (mod-add-mod (d .head .turn) (d .head .n) 1) (sym (quiet tray)) refl)
       (send (processOf d tray) at-own (quiet tray))
 
-pub send-is-a-step : SendIsAStep
+pub send-by-rules : (d : Desk) (buf : List ℕ) → DeskFits d → ByRules (sendRules d buf) d buf (SendStep d buf) (sendOf d buf)
 unfolding sendOf
-send-is-a-step d tray buf v fits e =
+send-by-rules d buf fits =
     let rules = sendRules d buf in
     let bytes : List ℕ = sheetOf (d .head) (d .pkind) (d .pday) in
     let count = length (pendingEntries (d .pkind) (d .pday)) in
-    let carried-out = answered-only-if rules (sent (d .head .turn) count) v e in
-    let silent : Silent rules = carried-out .0 in
+    by-call rules d buf (sent (d .head .turn) count) (sentDesk d) (bytes ++ drop (length bytes) buf) (SendStep d buf)
+    (λ silent.
     let allowed = send-allows d buf silent in
     let s = desk-says d (allowed .is-sound) in
     let own = allowed .own-turn in
     let more = allowed .not-last in
-    let step : SendStep d tray buf (d .head .turn) count (sentDesk d) (bytes ++ drop (length bytes) buf) =
     record {
-      turn-number = refl;
-      step = sent-step d fits s own more tray;
+      entries = count;
+      answer = refl;
+      step = sent-step d fits s own more;
+      keeps = record {
+        desks = refl;
+        cells = refl;
+        own-number = refl;
+        mode-number = refl;
+        turn-number = refl;
+        is-sound = next (λ (x : Desk). sound x ≡ true) rules d (sentDesk d) silent (send-sound d buf fits (allowed .is-sound));
+        fits = next DeskFits rules d (sentDesk d) silent (send-fits d buf fits);
+      };
       sheet = bytes;
       buffer = refl;
+      are-bytes = sheet-bytes (d .head) (d .pkind) (d .pday) (s .own-below) (s .desks-most) (s .cells-most) (s .pkind-is);
       reads-back = sheet-read d fits s own more;
-      carries = sheet-carries d fits s own more;
-    }
-    in
-    subst (λ (x : Desk). SendSteps d tray buf x (sendOf d buf .lent) v) (sym (changed-if rules d (sentDesk d) silent))
-    (subst₂ (λ (b : List ℕ) (x : Value). SendSteps d tray buf (sentDesk d) b x) (sym (changed-if rules buf (bytes ++ drop (length bytes) buf) silent)) (carried-out .1)
-    (sends (d .head .turn) count step))
+      carries = λ tray. sheet-carries d fits s own more;
+    })

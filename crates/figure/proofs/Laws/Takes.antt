@@ -1,7 +1,7 @@
 -- A take that is carried out is Figure 1's apply_updates(), and then the end of a blocked read where its turn has come.
 -- Assumes nothing.
 use Prim.Native.Nat.{ℕ, _+_, _%_, _<_, _≤_}
-use mathlib.Core.Path.{_≡_, refl, sym, _∙_, fun-ext, subst, subst₂}
+use mathlib.Core.Path.{_≡_, refl, sym, _∙_, fun-ext, subst}
 use mathlib.Core.Bool.{Bool, true, false, cond, _&&_, false≢true}
 use mathlib.Core.List.{List, [], _∷_}
 use mathlib.Core.Option.{none, some}
@@ -10,11 +10,10 @@ use native.Mathlib.Nat.{mod-add-mod}
 use lib.Dec.{eqb}
 use lib.ListN.{length}
 use borrow.Author.Tests.{eqb-true, eqb-false, ltb-true, lt-ltb}
-use Rattle.answer.specs.Promises.{Silent}
-use Rattle.answer.proofs.Laws.{answered-only-if, changed-if}
 use Rattle.content.specs.declared.Content.{Content}
 use Rattle.layout.specs.declared.Entry.{Entry}
 use Rattle.layout.specs.Layout.{trailerIn}
+use Rattle.layout.specs.Values.{AreBytes}
 use Rattle.layout.proofs.Laws.{entries-count}
 use Rattle.sheet.specs.Good.{good, every, rising, below, kindAndDay}
 use Rattle.sheet.proofs.Laws.Bools.{and-split}
@@ -22,16 +21,19 @@ use Rattle.sheet.proofs.Laws.Good.{good-entries-are}
 use Rattle.cells.specs.Cells.{contentAt}
 use Rattle.sound.specs.Head.{causal, turnDesk, ownTurn, readWaits, waitCell}
 use Rattle.sound.proofs.Laws.Sound.{Sound}
-use Rattle.tray.specs.Tray.{start, free, sheetAt, holdsGood, clearedIn}
+use Rattle.tray.specs.Tray.{placeStart, free, sheetAt, holdsGood, clearedIn}
 use Rattle.tray.proofs.Laws.Places.{holds-says, holds-not-free, cleared-free, cleared-others, SamePlace, same-holds, same-sheet-held}
 use Rattle.applying.specs.Applying.{goes, wentOf}
 use Rattle.desk.specs.declared.Desk.{Desk}
-use Rattle.desk.specs.Answers.{Value, taken}
-use Rattle.desk.specs.Calls.{nextHead, takeRules, entriesTaken, takenDesk, waitedFor, takeOf}
+use Rattle.desk.specs.Answers.{taken}
+use Rattle.desk.specs.Calls.{sound, nextHead, takeRules, entriesTaken, takenDesk, waitedFor, takeOf}
+use Rattle.desk.specs.Values.{DeskFits}
 use Rattle.desk.proofs.Laws.Allowed.{desk-says, take-allows}
-use Rattle.figure.specs.Figure1.{Process, without, reads, finish, applies, apply}
+use Rattle.keeping.proofs.Laws.Take.{take-sound, take-fits}
+use Rattle.figure.specs.Figure1.{Process, without, reads, finish, applies-updates, apply}
 use Rattle.figure.specs.Map.{processOf, updatesIn, updatesOf, received}
-use Rattle.figure.specs.Promises.{StepOf, Finishes, nothing-to-finish, finishes, TakeStep, TakeSteps, takes, TakeIsAStep}
+use Rattle.figure.specs.Demand2.{ByRules, StepOf, ThenFinishes, nothing-to-finish, finishes, TakeSteps}
+use Rattle.figure.proofs.Laws.ByRules.{by-call, next}
 use Rattle.figure.proofs.Laws.Loops.{entries-loop}
 use Rattle.figure.proofs.Laws.Maps.{same-process}
 
@@ -73,11 +75,11 @@ module _ (d : Desk) (es : List Entry) (tray tray′ : List ℕ) (left : received
   next-turn : (turnDesk (d .head) + 1) % d .head .n ≡ turnDesk (nextHead (d .head) 0)
   next-turn = mod-add-mod (d .head .turn) (d .head .n) 1
 
-  pub then-finishes : Finishes d (between d es tray) (waitedFor (d .head) (takenDesk d es)) (processOf (takenDesk d es) tray′)
+  pub then-finishes : ThenFinishes d (between d es tray) (waitedFor (d .head) (takenDesk d es)) (processOf (takenDesk d es) tray′)
   then-finishes = by-test (readWaits (d .head)) (ownTurn (nextHead (d .head) 0)) refl refl
     where
       by-test : (w o : Bool) → readWaits (d .head) ≡ w → ownTurn (nextHead (d .head) 0) ≡ o
-          → Finishes d (between d es tray) (waitedFor (d .head) (takenDesk d es)) (processOf (takenDesk d es) tray′)
+          → ThenFinishes d (between d es tray) (waitedFor (d .head) (takenDesk d es)) (processOf (takenDesk d es) tray′)
       by-test false o p q =
           let quiet : cond (readWaits (d .head)) (some (waitCell (d .head))) none ≡ none = rw p in
           rw p (nothing-to-finish (same-process refl refl (sym next-turn) quiet left) (λ e. quiet))
@@ -121,7 +123,7 @@ received-stays t u p same = by-test (holdsGood t p) refl
     by-test false e = rw (e, sym (same-holds t u p same) ∙ e)
 
 -- what is left where one place was cleared
-pub given-up : (tray : List ℕ) (q : ℕ) → start q + 398 ≤ length tray → received (clearedIn tray q) ≡ without q (received tray)
+pub given-up : (tray : List ℕ) (q : ℕ) → placeStart q + 398 ≤ length tray → received (clearedIn tray q) ≡ without q (received tray)
 given-up tray q room = fun-ext (λ p. by-test p (eqb p q) refl)
   where
     by-test : (p : ℕ) (t : Bool) → eqb p q ≡ t → received (clearedIn tray q) p ≡ without q (received tray) p
@@ -133,35 +135,41 @@ given-up tray q room = fun-ext (λ p. by-test p (eqb p q) refl)
 own-is-not : (a b : ℕ) → eqb a b ≡ false → b ≡ a → ⊥
 own-is-not a b e z = eqb-false a b e (sym z)
 
-pub take-is-a-step : TakeIsAStep
+pub take-by-rules : (d : Desk) (tray : List ℕ) → DeskFits d → AreBytes tray → ByRules (takeRules d tray) d tray (TakeSteps d tray) (takeOf d tray)
 unfolding takeOf
-take-is-a-step d tray v fits e =
+take-by-rules d tray fits are-bytes =
     let rules = takeRules d tray in
     let q = turnDesk (d .head) in
     let es = entriesTaken d tray in
     let went = wentOf (goes (causal (d .head)) (d .pkind)) es in
-    let carried-out = answered-only-if rules (taken (d .head .turn) (length es) went (waitedFor (d .head) (takenDesk d es))) v e in
-    let silent : Silent rules = carried-out .0 in
+    let waited = waitedFor (d .head) (takenDesk d es) in
+    by-call rules d tray (taken (d .head .turn) (length es) went waited) (takenDesk d es) (clearedIn tray q) (TakeSteps d tray)
+    (λ silent.
     let allowed = take-allows d tray silent in
     let s = desk-says d (allowed .is-sound) in
     let holds = holds-says tray q (allowed .holds-good) in
-    let next = allowed .is-next in
-    let loop = entries-loop d es (d .kind) (d .day) (fits .kinds) (fits .days) (taken-rise d tray s (holds .sheet-good) (next .cells)) (taken-below d tray s (holds .sheet-good) (next .cells)) in
+    let due = allowed .is-next in
+    let loop = entries-loop d es (d .kind) (d .day) (fits .kinds) (fits .days) (taken-rise d tray s (holds .sheet-good) (due .cells)) (taken-below d tray s (holds .sheet-good) (due .cells)) in
     let elsewhere : d .head .own ≡ q → ⊥ = own-is-not q (d .head .own) (allowed .elsewhere) in
     let there : received tray q ≡ some (updatesIn es) = rw (allowed .holds-good) in
-    let step : StepOf d (processOf d tray) (applies q (updatesIn es) (length es) went) (between d es tray) = apply (processOf d tray) q (updatesIn es) refl elsewhere there loop in
-    let left = given-up tray q (holds .room) in
     let count = sym (entries-count (trailerIn (sheetAt tray q) .entries) (sheetAt tray q)) in
-    let took : TakeStep d tray (d .head .turn) (length es) went (waitedFor (d .head) (takenDesk d es)) (takenDesk d es) (clearedIn tray q) =
     record {
-      turn-number = refl;
-      numbers = λ i. record { entries = count i; sender = next .sender i; desks = next .desks i; cells = next .cells i; turn = next .turn i };
+      entries = length es;
+      applied = went;
+      waited = waited;
+      answer = refl;
+      numbers = λ i. record { entries = count i; sender = due .sender i; desks = due .desks i; cells = due .cells i; turn = due .turn i };
       between = between d es tray;
-      step = step;
-      then = then-finishes d es tray (clearedIn tray q) left;
+      step = apply (processOf d tray) q (updatesIn es) refl elsewhere there loop;
+      then = then-finishes d es tray (clearedIn tray q) (given-up tray q (holds .room));
+      keeps = record {
+        desks = refl;
+        cells = refl;
+        own-number = refl;
+        mode-number = refl;
+        turn-number = refl;
+        is-sound = next (λ (x : Desk). sound x ≡ true) rules d (takenDesk d es) silent (take-sound d tray fits (allowed .is-sound));
+        fits = next DeskFits rules d (takenDesk d es) silent (take-fits d tray are-bytes fits);
+      };
       place = refl;
-    }
-    in
-    subst (λ (x : Desk). TakeSteps d tray x (takeOf d tray .lent) v) (sym (changed-if rules d (takenDesk d es) silent))
-    (subst₂ (λ (t : List ℕ) (x : Value). TakeSteps d tray (takenDesk d es) t x) (sym (changed-if rules tray (clearedIn tray q) silent)) (carried-out .1)
-    (takes (d .head .turn) (length es) went (waitedFor (d .head) (takenDesk d es)) took))
+    })

@@ -14,7 +14,7 @@ use Rattle.content.specs.declared.Content.{Content}
 use Rattle.desk.specs.declared.Desk.{Desk}
 use Rattle.desk.specs.Answers.{Value}
 use Rattle.desk.specs.Calls.{writeRules, writtenDesk, writeOf, readRules, mustWait, waitingDesk, readOf, sendRules, sentDesk, sendOf, takeRules, entriesTaken, takenDesk, takeOf}
-use Rattle.keeping.specs.Promises.{SameNumbers, SameTurn, NextTurn}
+use Rattle.keeping.proofs.Laws.Kept.{SameNumbers, SameTurn, NextTurn}
 use Rattle.keeping.proofs.Laws.Rules.{kept}
 
 same : {d : Desk} → SameNumbers d d

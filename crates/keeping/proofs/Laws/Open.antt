@@ -74,7 +74,7 @@ open-sound n m own mode e =
     (λ i b. blank-everywhere m (modeFor mode) i)
     (λ w. absurd (w refl))
 
-blank-fits : (h : Head) → h .turn ≤ 4294967295 → DeskFits (blankDesk h)
+pub blank-fits : (h : Head) → h .turn ≤ 4294967295 → DeskFits (blankDesk h)
 blank-fits h low =
     let none : (i : ℕ) → SFits w32 (dayAt (replicate 64 (pos 0)) i) = λ i. rw (blank-place (pos 0) i) (record { sfits = omega arith }) in
     record {

@@ -16,7 +16,7 @@ use Rattle.desk.specs.declared.Desk.{Desk}
 use Rattle.desk.specs.Calls.{sound, readRules, mustWait, waitingDesk, readOf}
 use Rattle.desk.specs.Values.{DeskFits}
 use Rattle.desk.proofs.Laws.Allowed.{desk-says, read-allows}
-use Rattle.keeping.specs.Promises.{KeptSound, KeptFits}
+use Rattle.keeping.proofs.Laws.Kept.{KeptSound, KeptFits}
 use Rattle.keeping.proofs.Laws.Rules.{kept}
 use Rattle.keeping.proofs.Laws.Places.{numbers-are, place-is, sound-by-places}
 

@@ -26,7 +26,7 @@ use Rattle.desk.specs.Answers.{sent}
 use Rattle.desk.specs.Calls.{sound, sendRules, sentDesk, sendOf}
 use Rattle.desk.specs.Values.{DeskFits}
 use Rattle.desk.proofs.Laws.Allowed.{desk-says, send-allows}
-use Rattle.keeping.specs.Promises.{KeptSound, KeptFits}
+use Rattle.keeping.proofs.Laws.Kept.{KeptSound, KeptFits}
 use Rattle.keeping.proofs.Laws.Rules.{kept, never-given}
 use Rattle.keeping.proofs.Laws.Places.{FairPlace, numbers-are, place-is, sound-by-places, blank-place}
 

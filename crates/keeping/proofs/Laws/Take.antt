@@ -34,7 +34,7 @@ use Rattle.sound.specs.declared.Head.{Head}
 use Rattle.sound.specs.Head.{causal, turnDesk}
 use Rattle.sound.specs.Sound.{dayFits}
 use Rattle.sound.proofs.Laws.Sound.{Waiting}
-use Rattle.tray.specs.Tray.{lengthAt, start, sheetAt, clearedIn}
+use Rattle.tray.specs.Tray.{lengthAt, placeStart, sheetAt, clearedIn}
 use Rattle.tray.proofs.Laws.Places.{holds-says, cleared-long}
 use Rattle.applying.specs.Applying.{goes, laid, kindOn, dayOn}
 use Rattle.applying.proofs.Laws.{Every, laid-length, laid-every}
@@ -43,7 +43,7 @@ use Rattle.desk.specs.declared.Desk.{Desk}
 use Rattle.desk.specs.Calls.{sound, nextHead, takeRules, entriesTaken, readEnds, takenDesk, takeOf}
 use Rattle.desk.specs.Values.{DeskFits}
 use Rattle.desk.proofs.Laws.Allowed.{desk-says, take-allows}
-use Rattle.keeping.specs.Promises.{KeptSound, KeptFits}
+use Rattle.keeping.proofs.Laws.Kept.{KeptSound, KeptFits}
 use Rattle.keeping.proofs.Laws.Rules.{kept}
 use Rattle.keeping.proofs.Laws.Places.{FairPlace, numbers-are, place-is, sound-by-places}
 
@@ -175,7 +175,7 @@ module _ (d : Desk) (tray : List ℕ) where
       let q = turnDesk h in
       let es = entriesTaken d tray in
       let going = goes (causal h) (d .pkind) in
-      let days = entries-days going (trailerIn (sheetAt tray q) .entries) (sheetAt tray q) (front-bytes (lengthAt tray q) (drop (start q + 2) tray) (back-bytes (start q + 2) tray bytes)) in
+      let days = entries-days going (trailerIn (sheetAt tray q) .entries) (sheetAt tray q) (front-bytes (lengthAt tray q) (drop (placeStart q + 2) tray) (back-bytes (placeStart q + 2) tray bytes)) in
       kept DeskFits (takeRules d tray) d (takenDesk d es) fits
       (λ silent.
       record {

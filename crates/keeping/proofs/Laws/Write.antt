@@ -24,7 +24,7 @@ use Rattle.desk.specs.declared.Desk.{Desk}
 use Rattle.desk.specs.Calls.{sound, writeRules, writtenDesk, writeOf}
 use Rattle.desk.specs.Values.{DeskFits}
 use Rattle.desk.proofs.Laws.Allowed.{desk-says, write-allows}
-use Rattle.keeping.specs.Promises.{KeptSound, KeptFits}
+use Rattle.keeping.proofs.Laws.Kept.{KeptSound, KeptFits}
 use Rattle.keeping.proofs.Laws.Rules.{kept}
 use Rattle.keeping.proofs.Laws.Places.{FairPlace, numbers-are, place-is, sound-by-places}
 

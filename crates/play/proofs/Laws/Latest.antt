@@ -21,7 +21,7 @@ use Rattle.pending.proofs.Laws.Sending.{sheet-long, sheet-most}
 use Rattle.desk.specs.declared.Desk.{Desk}
 use Rattle.desk.specs.Answers.{sent, Done}
 use Rattle.desk.specs.Calls.{sendRules, sentDesk, sendOf}
-use Rattle.runs.specs.Run.{Sheet, sheetOn, sheetLeft}
+use Rattle.runs.specs.Run.{SentSheet, sheetOn, sheetLeft}
 use Rattle.runs.proofs.Laws.Steps.{by-call}
 use Rattle.runs.proofs.Laws.Line.{more-long, more-same, more-last}
 use Rattle.play.specs.Steps.{latestFrom, latestOf}
@@ -29,7 +29,7 @@ use Rattle.play.specs.Parts.Making.{latestWith, LatestFit, LatestFits}
 
 -- ---- on the line
 
-from-more : (q k : ℕ) (found : Option ℕ) (line : List Sheet) (y : Sheet)
+from-more : (q k : ℕ) (found : Option ℕ) (line : List SentSheet) (y : SentSheet)
     → latestFrom q k found (line ++ (y ∷ [])) ≡ cond (eqb (y .from) q) (some (k + length line)) (latestFrom q k found line)
 unfolding latestFrom
 from-more q k found [] y = let here : k ≡ k + 0 = omega arith in ap (λ (i : ℕ). cond (eqb (y .from) q) (some i) found) here
@@ -38,29 +38,29 @@ from-more q k found (x ∷ line) y =
     from-more q (suc k) (cond (eqb (x .from) q) (some k) found) line y
     ∙ ap (λ (i : ℕ). cond (eqb (y .from) q) (some i) (latestFrom q (suc k) (cond (eqb (x .from) q) (some k) found) line)) there
 
-pub latest-more : (q : ℕ) (line : List Sheet) (y : Sheet) → latestOf q (line ++ (y ∷ [])) ≡ cond (eqb (y .from) q) (some (length line)) (latestOf q line)
+pub latest-more : (q : ℕ) (line : List SentSheet) (y : SentSheet) → latestOf q (line ++ (y ∷ [])) ≡ cond (eqb (y .from) q) (some (length line)) (latestOf q line)
 unfolding latestOf
 latest-more q line y = let all : 0 + length line ≡ length line = omega arith in from-more q 0 none line y ∙ ap (λ (i : ℕ). cond (eqb (y .from) q) (some i) (latestFrom q 0 none line)) all
 
 -- ---- in its place
 
 -- what lies in the place of desk q: nothing, or the sheet before which k were sent
-pub data LatestIs (latest : List ℕ) (q : ℕ) (line : List Sheet) : Option ℕ → Type 0 where
+pub data LatestIs (latest : List ℕ) (q : ℕ) (line : List SentSheet) : Option ℕ → Type 0 where
   none-yet : free latest q ≡ true → LatestIs latest q line none
   sheet-there : (k : ℕ) → k < length line → free latest q ≡ false → sheetAt latest q ≡ sheetOn line k .bytes → LatestIs latest q line (some k)
 
-pub record Kept (n : ℕ) (line : List Sheet) (latest : List ℕ) : Type 0 where
+pub record Kept (n : ℕ) (line : List SentSheet) (latest : List ℕ) : Type 0 where
   pub long : length latest ≡ 6368
   pub fits : LatestFits latest
   pub each : (q : ℕ) → q < n → LatestIs latest q line (latestOf q line)
 
-same-there : (line : List Sheet) (y : Sheet) (t u : List ℕ) (q : ℕ) → SamePlace t u q → LatestFit u q → {found : Option ℕ} → LatestIs u q line found → LatestIs t q (line ++ (y ∷ [])) found
+same-there : (line : List SentSheet) (y : SentSheet) (t u : List ℕ) (q : ℕ) → SamePlace t u q → LatestFit u q → {found : Option ℕ} → LatestIs u q line found → LatestIs t q (line ++ (y ∷ [])) found
 same-there line y t u q same fit (none-yet f) = none-yet (same-free t u q same ∙ f)
 same-there line y t u q same fit (sheet-there k l f e) =
     sheet-there k (omega (arith, more-long line y)) (same-free t u q same ∙ f)
-    (same-sheet t u q same (omega (arith, same-length-at t u q same, fit .most)) ∙ e ∙ ap (λ (x : Sheet). x .bytes) (sym (more-same line y k l)))
+    (same-sheet t u q same (omega (arith, same-length-at t u q same, fit .most)) ∙ e ∙ ap (λ (x : SentSheet). x .bytes) (sym (more-same line y k l)))
 
-module _ (n : ℕ) (line : List Sheet) (latest : List ℕ) (kept : Kept n line latest) (most : n ≤ 16) (p : ℕ) (l : p < n) where
+module _ (n : ℕ) (line : List SentSheet) (latest : List ℕ) (kept : Kept n line latest) (most : n ≤ 16) (p : ℕ) (l : p < n) where
   -- a sheet more, in its sender's place
   kept-more : (b : List ℕ) → 12 ≤ length b → length b ≤ 396 → Kept n (line ++ (record { from = p; bytes = b } ∷ [])) (heldIn latest p b)
   kept-more b least few =
@@ -70,7 +70,7 @@ module _ (n : ℕ) (line : List Sheet) (latest : List ℕ) (kept : Kept n line l
         each = λ q m. by-place q m (ℕ-discrete q p);
       }
     where
-      y : Sheet
+      y : SentSheet
       y = record { from = p; bytes = b }
 
       there : Held (heldIn latest p b) p b
@@ -89,7 +89,7 @@ module _ (n : ℕ) (line : List Sheet) (latest : List ℕ) (kept : Kept n line l
       by-place q m (yes e) =
           rw (latest-more q line y, e, eq-eqb p p refl)
           (sheet-there (length line) (omega (arith, more-long line y)) (ne-eqb (lengthAt (heldIn latest p b) p) 0 (λ z. absurd (omega (arith, there .length-is))))
-          (there .sheet-is ∙ ap (λ (x : Sheet). x .bytes) (sym (more-last line y))))
+          (there .sheet-is ∙ ap (λ (x : SentSheet). x .bytes) (sym (more-last line y))))
       by-place q m (no e) =
           rw (latest-more q line y, ne-eqb p q (λ z. e (sym z)))
           (same-there line y (heldIn latest p b) latest q (held-others latest q p b e) (kept .fits q (omega arith)) (kept .each q m))
@@ -106,5 +106,5 @@ module _ (n : ℕ) (line : List Sheet) (latest : List ℕ) (kept : Kept n line l
       (sent (d .head .turn) (length (pendingEntries (d .pkind) (d .pday))))
       (sentDesk d)
       lent
-      (λ k first. subst (λ (x : List Sheet). Kept n x latest) (sym (append-nil line)) kept)
+      (λ k first. subst (λ (x : List SentSheet). Kept n x latest) (sym (append-nil line)) kept)
       (λ silent. kept-more (take many lent) (omega arith) (omega (arith, sheet-most (d .head) (d .pkind) (d .pday), sheet-long (d .head) (d .pkind) (d .pday))))

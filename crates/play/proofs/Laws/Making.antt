@@ -24,9 +24,9 @@ use Rattle.desk.specs.declared.Outcome.{Outcome}
 use Rattle.desk.specs.declared.Answer as declared
 use Rattle.desk.specs.declared.Answer.the-variants as cases
 use Rattle.desk.proofs.Answer as answer
-use Rattle.desk.specs.Answers.{Value, sent, Done, said, outcome}
+use Rattle.desk.specs.Answers.{Value, sent, Done, saidAnswer, outcome}
 use Rattle.desk.specs.Calls.{writeOf, readOf, sendRules, sentDesk, sendOf, deliverOf, takeOf}
-use Rattle.runs.specs.Run.{Sheet, sheetLeft}
+use Rattle.runs.specs.Run.{SentSheet, sheetLeft}
 use Rattle.runs.proofs.Laws.Steps.{by-call}
 use Rattle.schedule.specs.declared.Act.{Act}
 use Rattle.schedule.specs.declared.Act.the-variants as act
@@ -64,7 +64,7 @@ sending-room d buf =
 abbrev notSent : List ℕ
 notSent = 0 ∷ 1 ∷ 2 ∷ 3 ∷ 5 ∷ 6 ∷ 7 ∷ 8 ∷ []
 
-none-sent : (p : ℕ) (lent : List ℕ) (a : declared.Answer) → OneOf notSent (tagOf answer.the-type a) → sheetLeft p (said a) lent ≡ []
+none-sent : (p : ℕ) (lent : List ℕ) (a : declared.Answer) → OneOf notSent (tagOf answer.the-type a) → sheetLeft p (saidAnswer a) lent ≡ []
 none-sent p lent cases.Opened other = refl
 none-sent p lent cases.Stored other = refl
 none-sent p lent (cases.Holds c) other = refl
@@ -81,16 +81,16 @@ module _ (d : Desk) (room : List ℕ) (blank : room ≡ sheetRoom) (o : Outcome)
 
   module _ (turn entries : ℕ) (e : o .answer ≡ cases.Sent turn entries) where
     pub sent-room : 6 * entries + 12 ≤ length lent
-    sent-room = subst (λ (x : Done). Room (x .answer) (x .lent)) (sym is) (sending-room d sheetRoom) turn entries (ap said e)
+    sent-room = subst (λ (x : Done). Room (x .answer) (x .lent)) (sym is) (sending-room d sheetRoom) turn entries (ap saidAnswer e)
 
     pub sent-part : 6 * entries + 12 ≡ length (take (6 * entries + 12) lent)
     sent-part = sym (length-take-le (6 * entries + 12) lent sent-room)
 
   module _ (p : ℕ) (latest : List ℕ) (r : StepOutcome) (r-is : r ≡ ofOutcome o) where
-    by-answer : (xs : List Sheet) → sheetLeft p (said (o .answer)) lent ≡ xs → stepOutcome r [] (latestWith latest p xs) ≡ bySend p (sendOf d sheetRoom) [] latest
+    by-answer : (xs : List SentSheet) → sheetLeft p (saidAnswer (o .answer)) lent ≡ xs → stepOutcome r [] (latestWith latest p xs) ≡ bySend p (sendOf d sheetRoom) [] latest
     by-answer xs e =
         ap (λ (x : StepOutcome). stepOutcome x [] (latestWith latest p xs)) r-is
-        ∙ ap (λ (l : List Sheet). stepOutcome (ofOutcome o) [] (latestWith latest p l)) (sym e)
+        ∙ ap (λ (l : List SentSheet). stepOutcome (ofOutcome o) [] (latestWith latest p l)) (sym e)
         ∙ ap (λ (done : Done). bySend p done [] latest) is
 
     pub send-none : OneOf notSent (tagOf answer.the-type (o .answer)) → stepOutcome r [] latest ≡ bySend p (sendOf d sheetRoom) [] latest
@@ -99,7 +99,7 @@ module _ (d : Desk) (room : List ℕ) (blank : room ≡ sheetRoom) (o : Outcome)
     pub send-kept : (turn entries : ℕ) → o .answer ≡ cases.Sent turn entries → (after : List ℕ) → after ≡ heldIn latest p (take (6 * entries + 12) lent) → stepOutcome r [] after ≡ bySend p (sendOf d sheetRoom) [] latest
     send-kept turn entries e after kept =
         ap (stepOutcome r []) kept
-        ∙ by-answer (record { from = p; bytes = take (6 * entries + 12) lent } ∷ []) (ap (λ (a : declared.Answer). sheetLeft p (said a) lent) e)
+        ∙ by-answer (record { from = p; bytes = take (6 * entries + 12) lent } ∷ []) (ap (λ (a : declared.Answer). sheetLeft p (saidAnswer a) lent) e)
 
 pub ruleset sends = (sent-room, sent-part, send-none, send-kept)
 

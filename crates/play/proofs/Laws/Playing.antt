@@ -18,6 +18,7 @@ use Rattle.laying.specs.Laying.{laidOver}
 use Rattle.laying.proofs.Laws.{laid, laid-behind}
 use Rattle.tray.proofs.Laws.Parts.{laid-long}
 use Rattle.desk.specs.declared.Desk.{Desk}
+use Rattle.desk.specs.Calls.{document01}
 use Rattle.runs.specs.Run.{State, start}
 use Rattle.text.specs.Separated.{firstPart, lineFeed}
 use Rattle.schedule.specs.declared.Act.{Act}
@@ -85,10 +86,10 @@ module _ (input : List ℕ) (from n m mode : ℕ) (out₀ : List ℕ) (at : ℕ)
         few-desks = asked .few-desks;
         few-bytes = asked .few-bytes;
         size-is = refl;
-        state = start (record { n = n; m = m; mode = λ p. mode });
+        state = start document01 (record { n = n; m = m; mode = λ p. mode });
         stands =
-            subst (λ (t : List ℕ). Stands n (start (record { n = n; m = m; mode = λ p. mode })) ds t latest) (sym clear)
-            (subst (Stands n (start (record { n = n; m = m; mode = λ p. mode })) ds clearTrays) (sym none-sent)
+            subst (λ (t : List ℕ). Stands n (start document01 (record { n = n; m = m; mode = λ p. mode })) ds t latest) (sym clear)
+            (subst (Stands n (start document01 (record { n = n; m = m; mode = λ p. mode })) ds clearTrays) (sym none-sent)
             (stands-at-start n m mode (asked .few-desks) ds opened 101888 6368 refl refl));
         within-input = asked .within-input;
         done = [];

@@ -18,12 +18,11 @@ use Rattle.tray.specs.Tray.{lengthAt}
 use Rattle.tray.proofs.Laws.Parts.{laid-long}
 use Rattle.desk.specs.declared.Desk.{Desk}
 use Rattle.desk.specs.Answers.{Done}
-use Rattle.desk.specs.Calls.{writeOf, readOf, sendOf, deliverOf, takeOf}
+use Rattle.desk.specs.Calls.{document01, writeOf, readOf, sendOf, deliverOf, takeOf}
 use Rattle.keeping.proofs.Laws.Deliver.{deliver-long}
 use Rattle.keeping.proofs.Laws.Take.{take-long}
-use Rattle.runs.specs.Calls.{document01}
-use Rattle.runs.specs.Calls as calls
-use Rattle.runs.specs.Run.{Shelf, Sheet, State, sheetNo, start, made, put, after}
+use Rattle.runs.specs.Call as calls
+use Rattle.runs.specs.Run.{Shelf, SentSheet, State, sheetNo, start, made, put, after}
 use Rattle.runs.proofs.Laws.Steps.{put-same, put-other, put-own}
 use Rattle.schedule.specs.declared.Act.{Act}
 use Rattle.schedule.specs.declared.Act.the-variants as act
@@ -51,7 +50,7 @@ module _ {n : ℕ} (few : n ≤ 16) {s : State} {ds : List Desk} {trays latest :
       ∙ length-take-le (398 * n) (drop (p * (398 * n)) trays) (omega (arith, room, length-drop (p * (398 * n)) trays))
 
   -- desk p has another record and another tray
-  replaced : (d : Desk) (t : List ℕ) → length t ≡ 398 * n → {line : List Sheet} {latest′ : List ℕ} → Kept n line latest′
+  replaced : (d : Desk) (t : List ℕ) → length t ≡ 398 * n → {line : List SentSheet} {latest′ : List ℕ} → Kept n line latest′
       → Stands n (record { desk = put (s .desk) p d; tray = put (s .tray) p t; line = line }) (set ds p d) (laidOver trays (p * (398 * n)) t) latest′
   replaced d t long k =
       record {
@@ -77,16 +76,16 @@ module _ {n : ℕ} (few : n ≤ 16) {s : State} {ds : List Desk} {trays latest :
     pub stands : Stands n (afterStep s step) (set ds p (r .desk)) (laidOver trays (p * (398 * n)) (r .tray)) (r .latest)
 
   -- where a call leaves the tray alone
-  abbrev withDesk : Desk → List Sheet → State
+  abbrev withDesk : Desk → List SentSheet → State
   withDesk d line = record { desk = put (s .desk) p d; tray = s .tray; line = line }
 
-  same-tray : (d : Desk) (line : List Sheet) → record { desk = put (s .desk) p d; tray = put (s .tray) p (s .tray p); line = line } ≡ withDesk d line
+  same-tray : (d : Desk) (line : List SentSheet) → record { desk = put (s .desk) p d; tray = put (s .tray) p (s .tray p); line = line } ≡ withDesk d line
   same-tray d line = ap (λ (f : ℕ → List ℕ). record { desk = put (s .desk) p d; tray = f; line = line }) (put-own (s .tray) p)
 
   same-all : record { desk = put (s .desk) p (s .desk p); tray = put (s .tray) p (s .tray p); line = s .line } ≡ s
   same-all = same-tray (s .desk p) (s .line) ∙ ap (λ (f : ℕ → Desk). record { desk = f; tray = s .tray; line = s .line }) (put-own (s .desk) p)
 
-  left : (d : Desk) {line : List Sheet} {latest′ : List ℕ} → Kept n line latest′
+  left : (d : Desk) {line : List SentSheet} {latest′ : List ℕ} → Kept n line latest′
       → Stands n (withDesk d line) (set ds p d) (laidOver trays (p * (398 * n)) (s .tray p)) latest′
   left d {line} {latest′} k =
       subst (λ (t : State). Stands n t (set ds p d) (laidOver trays (p * (398 * n)) (s .tray p)) latest′) (same-tray d line) (replaced d (s .tray p) tray-long k)
@@ -172,7 +171,7 @@ module _ (n m mode : ℕ) (few : n ≤ 16) where
   shelf = record { n = n; m = m; mode = λ p. mode }
 
   pub stands-at-start : (ds : List Desk) → AllOpened n m mode ds
-      → (k j : ℕ) → k ≡ 101888 → j ≡ 6368 → Stands n (start shelf) ds (replicate k 0) (replicate j 0)
+      → (k j : ℕ) → k ≡ 101888 → j ≡ 6368 → Stands n (start document01 shelf) ds (replicate k 0) (replicate j 0)
   unfolding start
   stands-at-start ds opened k j trays places =
       record {

@@ -12,7 +12,7 @@ use Rattle.desk.specs.declared.Desk.{Desk}
 use Rattle.desk.specs.declared.Outcome.{Outcome}
 use Rattle.desk.specs.Answers.{Done}
 use Rattle.desk.specs.Calls.{writeOf, readOf, sendOf, deliverOf, takeOf}
-use Rattle.runs.specs.Run.{Sheet, sheetLeft}
+use Rattle.runs.specs.Run.{SentSheet, sheetLeft}
 use Rattle.schedule.specs.declared.Act.{Act}
 use Rattle.schedule.specs.declared.Act.the-variants as act
 use Rattle.printing.specs.declared.StepAnswer.the-variants as cases
@@ -44,7 +44,7 @@ abbrev pub byTray : Done → List ℕ → StepDone
 byTray done latest = byCall done (done .lent) latest
 
 -- the sheet of desk p, if it sent one, becomes its latest
-abbrev pub latestWith : List ℕ → ℕ → List Sheet → List ℕ
+abbrev pub latestWith : List ℕ → ℕ → List SentSheet → List ℕ
 latestWith latest p [] = latest
 latestWith latest p (x ∷ xs) = heldIn latest p (x .bytes)
 

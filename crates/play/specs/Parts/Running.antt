@@ -10,7 +10,7 @@ use lib.Dec.{ltb}
 use lib.ListN.{length, getD, take, drop, replicate}
 use Rattle.laying.specs.Laying.{laidOver}
 use Rattle.desk.specs.declared.Desk.{Desk}
-use Rattle.desk.specs.Calls.{modeFor, openOf}
+use Rattle.desk.specs.Calls.{document01, modeFor, openOf}
 use Rattle.runs.specs.Run.{start}
 use Rattle.schedule.specs.Lines.{ended, linesOf}
 use Rattle.schedule.specs.Start.{Start}
@@ -49,7 +49,7 @@ pub record Runs (input : List ℕ) (from n : ℕ) (out : List ℕ) (at : ℕ) : 
 
 -- the text of the steps from `from` on
 abbrev pub runOf : List ℕ → (from n m mode : ℕ) → List ℕ
-runOf input from n m mode = numbered 1 (stepAnswers n (start (record { n = n; m = m; mode = λ p. mode })) (linesOf (drop from input)))
+runOf input from n m mode = numbered 1 (stepAnswers n (start document01 (record { n = n; m = m; mode = λ p. mode })) (linesOf (drop from input)))
 
 -- this text laid over a buffer from `at` on, and where it ends, within the buffer
 pub record Ran (x out : List ℕ) (at : ℕ) (out′ : List ℕ) (end : ℕ) : Type 0 where

@@ -14,7 +14,7 @@ use Rattle.text.specs.Text.{text}
 use Rattle.text.specs.Decimal.{decimal, signedDecimal}
 use Rattle.desk.specs.declared.Answer as desk
 use Rattle.desk.specs.declared.Answer.the-variants as answer
-use Rattle.desk.specs.Answers.{said}
+use Rattle.desk.specs.Answers.{saidAnswer}
 use Rattle.printing.specs.declared.StepAnswer as declared
 use Rattle.printing.specs.declared.StepAnswer.the-variants as cases
 use Rattle.printing.specs.StepAnswer.{saidStepAnswer}
@@ -77,36 +77,36 @@ pub ruleset takes-laid = (sent-laid, taken-laid)
 
 module _ (b : List ℕ) (at : ℕ) (a : desk.Answer) where
   abbrev answerOf : desk.Answer → List ℕ
-  answerOf x = answerText (said x)
+  answerOf x = answerText (saidAnswer x)
 
   module _ (b′ : List ℕ) (end : ℕ) where
-    pub opened-laid : a ≡ answer.Opened → Puts 6 b at (text "opened") b′ end → Puts 40 b at (answerText (said a)) b′ end
+    pub opened-laid : a ≡ answer.Opened → Puts 6 b at (text "opened") b′ end → Puts 40 b at (answerText (saidAnswer a)) b′ end
     opened-laid e p = puts-of answerOf 40 (omega arith) e p
 
-    pub stored-laid : a ≡ answer.Stored → Puts 6 b at (text "stored") b′ end → Puts 40 b at (answerText (said a)) b′ end
+    pub stored-laid : a ≡ answer.Stored → Puts 6 b at (text "stored") b′ end → Puts 40 b at (answerText (saidAnswer a)) b′ end
     stored-laid e p = puts-of answerOf 40 (omega arith) e p
 
-    pub holds-laid : (c : Content) → a ≡ answer.Holds c → Puts 15 b at (contentText c) b′ end → Puts 40 b at (answerText (said a)) b′ end
+    pub holds-laid : (c : Content) → a ≡ answer.Holds c → Puts 15 b at (contentText c) b′ end → Puts 40 b at (answerText (saidAnswer a)) b′ end
     holds-laid c e p = puts-of answerOf 40 (omega arith) e p
 
-    pub waits-laid : a ≡ answer.Waits → Puts 5 b at (text "waits") b′ end → Puts 40 b at (answerText (said a)) b′ end
+    pub waits-laid : a ≡ answer.Waits → Puts 5 b at (text "waits") b′ end → Puts 40 b at (answerText (saidAnswer a)) b′ end
     waits-laid e p = puts-of answerOf 40 (omega arith) e p
 
-    pub sent-answer : (turn entries : ℕ) → a ≡ answer.Sent turn entries → Puts 19 b at (sentText turn entries) b′ end → Puts 40 b at (answerText (said a)) b′ end
+    pub sent-answer : (turn entries : ℕ) → a ≡ answer.Sent turn entries → Puts 19 b at (sentText turn entries) b′ end → Puts 40 b at (answerText (saidAnswer a)) b′ end
     unfolding sentText
     sent-answer turn entries e p = puts-of answerOf 40 (omega arith) e p
 
-    pub held-laid : a ≡ answer.Held → Puts 4 b at (text "held") b′ end → Puts 40 b at (answerText (said a)) b′ end
+    pub held-laid : a ≡ answer.Held → Puts 4 b at (text "held") b′ end → Puts 40 b at (answerText (saidAnswer a)) b′ end
     held-laid e p = puts-of answerOf 40 (omega arith) e p
 
-    pub refused-laid : (number : ℕ) → a ≡ answer.Refused number → Puts 11 b at (text "refused " ++ decimal number) b′ end → Puts 40 b at (answerText (said a)) b′ end
+    pub refused-laid : (number : ℕ) → a ≡ answer.Refused number → Puts 11 b at (text "refused " ++ decimal number) b′ end → Puts 40 b at (answerText (saidAnswer a)) b′ end
     refused-laid number e p = puts-of answerOf 40 (omega arith) e p
 
   module _ (b₁ : List ℕ) (a₁ : ℕ) (b₂ : List ℕ) (a₂ : ℕ) where
     pub taken-alone : (turn entries applied : ℕ) → a ≡ answer.Taken turn entries applied
         → Puts 24 b at (takenText turn entries applied) b₁ a₁
         → Puts 2 b₁ a₁ (text " -") b₂ a₂
-        → Puts 40 b at (answerText (said a)) b₂ a₂
+        → Puts 40 b at (answerText (saidAnswer a)) b₂ a₂
     unfolding takenText
     taken-alone turn entries applied e p q =
         puts-of answerOf 40 (omega arith) e (puts-same (sym (append-assoc (takenText turn entries applied) (text " ") (text "-"))) (p then q))
@@ -115,7 +115,7 @@ module _ (b : List ℕ) (at : ℕ) (a : desk.Answer) where
         → Puts 24 b at (takenText turn entries applied) b₁ a₁
         → Puts 1 b₁ a₁ (text " ") b₂ a₂
         → Puts 15 b₂ a₂ (contentText c) b₃ a₃
-        → Puts 40 b at (answerText (said a)) b₃ a₃
+        → Puts 40 b at (answerText (saidAnswer a)) b₃ a₃
     unfolding takenText
     taken-and-read turn entries applied c b₃ a₃ e p q r = puts-of answerOf 40 (omega arith) e (p then q then r)
 
@@ -128,7 +128,7 @@ module _ (b : List ℕ) (at : ℕ) (s : declared.StepAnswer) (b′ : List ℕ) (
   abbrev textOf : declared.StepAnswer → List ℕ
   textOf x = stepAnswerText (saidStepAnswer x)
 
-  pub answer-laid : (a : desk.Answer) → s ≡ cases.OfCall a → Puts 40 b at (answerText (said a)) b′ end → Puts 40 b at (stepAnswerText (saidStepAnswer s)) b′ end
+  pub answer-laid : (a : desk.Answer) → s ≡ cases.OfCall a → Puts 40 b at (answerText (saidAnswer a)) b′ end → Puts 40 b at (stepAnswerText (saidStepAnswer s)) b′ end
   answer-laid a e p = puts-of textOf 40 (omega arith) e p
 
   pub nothing-laid : s ≡ cases.NothingSent → Puts 12 b at (text "nothing sent") b′ end → Puts 40 b at (stepAnswerText (saidStepAnswer s)) b′ end

@@ -5,7 +5,7 @@ use Prim.Native.Nat.{ℕ}
 use mathlib.Core.Path.{_≡_, refl, sym, ap, _∙_}
 use mathlib.Core.Bool.{Bool, true, false, cond, not}
 use mathlib.Core.List.{List}
-use Rattle.answer.specs.Answer.{Answer, refused, answered, numberOf}
+use Rattle.answer.specs.Answer.{Answer, refused, answered, firstNumber}
 use Rattle.layout.specs.declared.Numbers.{Numbers}
 use Rattle.sound.specs.declared.Head.{Head}
 use Rattle.tray.specs.declared.Place.{Place}
@@ -21,7 +21,7 @@ by h (answered x) = record { number = cond (not (isNext h x)) 21 0; entries = co
 
 module _ (h : Head) (tray : List ℕ) (q : ℕ) where
   by-place : by h (saidPlace (placeOf tray q)) ≡ lookedAt h tray q
-  unfolding by lookedAt numberOf placeOf
+  unfolding by lookedAt firstNumber placeOf
   by-place = by-tests (free tray q) (holdsGood tray q) refl refl
     where
       by-tests : (f g : Bool) → free tray q ≡ f → holdsGood tray q ≡ g → by h (saidPlace (placeOf tray q)) ≡ lookedAt h tray q

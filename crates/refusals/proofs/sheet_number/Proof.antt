@@ -1,7 +1,7 @@
 -- `sheet_number` meets its contract: one rule before the next.
 -- Assumes nothing.
 use borrow.Author.Needs.{needs}
-use Rattle.answer.specs.Answer.{numberOf}
+use Rattle.answer.specs.Answer.{firstNumber}
 use Rattle.refusals.proofs.sheet_number.Statement.{statement}
 use Rattle.refusals.proofs.sheet_number.Tie as tie
 
@@ -33,7 +33,7 @@ first-requires-5 : tie.Need-first-requires-5
 first-requires-5 c κs = search needs
 
 returns : tie.Need-returns
-unfolding numberOf
+unfolding firstNumber
 returns c = rw (c .first5 .ensures, c .before .before .before .before .before .first4 .ensures, c .before .before .before .before .before .before .before .before .first3 .ensures, c .before .before .before .before .before .before .before .before .before .before .before .first2 .ensures, c .before .before .before .before .before .before .before .before .before .before .before .before .before .before .before .first .ensures)
 
 pub sheet-number-spec : {M : Type 1} → statement M

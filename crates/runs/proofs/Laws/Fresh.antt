@@ -14,14 +14,14 @@ use Rattle.answer.specs.Promises.{Silent}
 use Rattle.answer.proofs.Laws.{answered-if, changed-if}
 use Rattle.layout.proofs.Bytes.{zeros-bytes}
 use Rattle.tray.specs.Tray.{lengthAt, free}
-use Rattle.tray.specs.Tray as tray
+use Rattle.tray.specs.Tray.{placeStart}
 use Rattle.desk.specs.declared.Desk.{Desk}
 use Rattle.desk.specs.Answers.{opened}
-use Rattle.desk.specs.Calls.{openRules, modeFor, blankDesk, freshHead, openOf}
+use Rattle.desk.specs.Calls.{document01, openRules, modeFor, blankDesk, freshHead, openOf}
 use Rattle.desk.proofs.Laws.Allowed.{open-if}
 use Rattle.keeping.proofs.Keeping.{open-is-sound}
-use Rattle.runs.specs.Calls.{Call, document01}
-use Rattle.runs.specs.Run.{Shelf, Within, start, RunOn, now, afterAll}
+use Rattle.runs.specs.Call.{Call}
+use Rattle.runs.specs.Run.{Shelf, Within, start, RunOn, reached, afterAll}
 use Rattle.runs.proofs.Laws.InOrder.{is-free, DeskInOrder, InOrder}
 use Rattle.runs.proofs.Laws.Lists.{along}
 use Rattle.runs.proofs.Laws.Steps.{step}
@@ -35,7 +35,7 @@ clear (suc n) zero = refl
 clear (suc n) (suc i) = clear n i
 
 clear-free : (n q : ℕ) → free (replicate n 0) q ≡ true
-clear-free n q = eq-eqb (lengthAt (replicate n 0) q) 0 (rw (clear n (tray.start q), clear n (tray.start q + 1)))
+clear-free n q = eq-eqb (lengthAt (replicate n 0) q) 0 (rw (clear n (placeStart q), clear n (placeStart q + 1)))
 
 -- ---- a desk that was opened
 
@@ -78,13 +78,13 @@ module _ (shelf : Shelf) (w : Within shelf) (p : ℕ) (here : p < shelf .n) wher
         places = λ q l. is-free (clear-free (398 * shelf .n) q);
       }
 
-pub fresh : (shelf : Shelf) → Within shelf → InOrder shelf (start shelf)
+pub fresh : (shelf : Shelf) → Within shelf → InOrder shelf (start document01 shelf)
 unfolding start
 fresh shelf w = record { sheets = λ k l. absurd (omega arith); desks = fresh-desk shelf w }
 
 -- ---- a run
 
-pub in-order : (shelf : Shelf) (cs : List Call) → RunOn document01 shelf cs → InOrder shelf (now document01 shelf cs)
+pub in-order : (shelf : Shelf) (cs : List Call) → RunOn document01 shelf cs → InOrder shelf (reached document01 shelf cs)
 in-order shelf cs r =
-    along document01 (shelf .n) (start shelf) (λ cs s. InOrder shelf s) (fresh shelf (r .within))
-    (λ cs c before o here. step-in-order o here (step (afterAll document01 (start shelf) cs) c)) cs (r .run)
+    along document01 (shelf .n) (start document01 shelf) (λ cs s. InOrder shelf s) (fresh shelf (r .within))
+    (λ cs c before o here. step-in-order o here (step (afterAll document01 (start document01 shelf) cs) c)) cs (r .run)

@@ -30,10 +30,10 @@ use Rattle.applying.specs.Applying.{goes, wentOf}
 use Rattle.refusals.specs.Rules.{lastTurn}
 use Rattle.desk.specs.declared.Desk.{Desk}
 use Rattle.desk.specs.Answers.{Value, sent, held, taken}
-use Rattle.desk.specs.Calls.{sendRules, sendOf, deliverRules, takeRules, entriesTaken, takenDesk, waitedFor, takeOf}
+use Rattle.desk.specs.Calls.{document01, sendRules, sendOf, deliverRules, takeRules, entriesTaken, takenDesk, waitedFor, takeOf}
 use Rattle.desk.proofs.Laws.Allowed.{SendAllowed, send-if, TakeAllowed, take-if}
-use Rattle.runs.specs.Calls.{document01, delivers, takes}
-use Rattle.runs.specs.Run.{Shelf, Sheet, sheetOn, State, sheetNo, made, put, after}
+use Rattle.runs.specs.Call.{delivers, takes}
+use Rattle.runs.specs.Run.{Shelf, SentSheet, sheetOn, State, sheetNo, made, put, after}
 use Rattle.runs.specs.EveryRun.{SheetInOrder}
 use Rattle.runs.specs.TurnRules.{turnOf, CanSend, InTray, Arrives, is-held, is-there, CanTake, SomeGoesOn}
 use Rattle.runs.proofs.Laws.InOrder.{DeskInOrder, InOrder}
@@ -45,7 +45,7 @@ use Rattle.runs.proofs.Laws.Never.{tray-fits, same-shelf, in-reach, nex
 
 -- ---- send
 
-module _ {shelf : Shelf} {line : List Sheet} {p : ℕ} {d : Desk} {tray : List ℕ} (o : DeskInOrder shelf line p d tray) (low : d .head .turn < lastTurn) where
+module _ {shelf : Shelf} {line : List SentSheet} {p : ℕ} {d : Desk} {tray : List ℕ} (o : DeskInOrder shelf line p d tray) (low : d .head .turn < lastTurn) where
   before-end : eqb (d .head .turn) lastTurn ≡ false
   before-end = ne-eqb (d .head .turn) lastTurn (λ e. omega (arith, e))
 

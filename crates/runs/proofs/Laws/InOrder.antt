@@ -10,11 +10,11 @@ use lib.ListN.{length}
 use Rattle.layout.specs.Values.{AreBytes}
 use Rattle.tray.specs.Tray.{free, sheetAt, holdsGood}
 use Rattle.desk.specs.declared.Desk.{Desk}
-use Rattle.runs.specs.Run.{Shelf, Sheet, sheetOn, State, sheetNo}
+use Rattle.runs.specs.Run.{Shelf, SentSheet, sheetOn, State, sheetNo}
 use Rattle.runs.specs.EveryRun.{AsOpened, SheetInOrder}
 
 -- the place of desk q in the tray of a desk with this turn number
-pub data PlaceInOrder (n : ℕ) (line : List Sheet) (turn : ℕ) (tray : List ℕ) (q : ℕ) : Type 0 where
+pub data PlaceInOrder (n : ℕ) (line : List SentSheet) (turn : ℕ) (tray : List ℕ) (q : ℕ) : Type 0 where
   is-free : free tray q ≡ true → PlaceInOrder n line turn tray q
   holds-sheet : (k : ℕ) → k < length line → turn ≤ k → k % n ≡ q
       → holdsGood tray q ≡ true
@@ -22,7 +22,7 @@ pub data PlaceInOrder (n : ℕ) (line : List Sheet) (turn : ℕ) (tray : List �
       → PlaceInOrder n line turn tray q
 
 -- desk p's record and tray
-pub record DeskInOrder (shelf : Shelf) (line : List Sheet) (p : ℕ) (d : Desk) (tray : List ℕ) : Type 0 where
+pub record DeskInOrder (shelf : Shelf) (line : List SentSheet) (p : ℕ) (d : Desk) (tray : List ℕ) : Type 0 where
   pub as-opened : AsOpened shelf p d
   -- it has taken no sheet that was not sent, and has gone past every sheet of its own
   pub no-further : d .head .turn ≤ length line

@@ -25,7 +25,7 @@ use Rattle.layout.specs.declared.Numbers.{Numbers}
 use Rattle.layout.specs.Values.{AreBytes}
 use Rattle.sheet.proofs.Laws.Good.{good-within}
 use Rattle.sound.specs.Head.{turnDesk}
-use Rattle.tray.specs.Tray.{start, holdsGood, heldIn, clearedIn}
+use Rattle.tray.specs.Tray.{placeStart, holdsGood, heldIn, clearedIn}
 use Rattle.tray.proofs.Laws.Places.{place-there, held-long, cleared-long, held-found, held-holds, cleared-free, SamePlace, held-others, cleared-others, same-free, same-holds, same-sheet-held}
 use Rattle.tray.proofs.Laws.Bytes.{held-bytes, cleared-bytes}
 use Rattle.pending.proofs.Laws.Bytes.{sheet-bytes}
@@ -34,11 +34,11 @@ use Rattle.desk.specs.Answers.{Value}
 use Rattle.desk.specs.Calls.{sound, writeRules, writtenDesk, writeOf, readRules, mustWait, waitingDesk, readOf, sendRules, sentDesk, sendOf, deliverRules, takeRules, entriesTaken, takenDesk, takeOf}
 use Rattle.desk.specs.Values.{DeskFits}
 use Rattle.desk.proofs.Laws.Allowed.{SendAllowed, send-allows, deliver-allows, take-allows}
-use Rattle.keeping.specs.Promises.{SameNumbers, SameTurn}
+use Rattle.keeping.proofs.Laws.Kept.{SameNumbers, SameTurn}
 use Rattle.keeping.proofs.Keeping.{keeps-sound, keeps-fits, numbers-stay}
 use Rattle.keeping.proofs.Laws.Sheets.{sheet-good, sheet-numbers}
-use Rattle.runs.specs.Calls.{Call}
-use Rattle.runs.specs.Run.{Shelf, Sheet, sheetOn, State, put, Possible}
+use Rattle.runs.specs.Call.{Call}
+use Rattle.runs.specs.Run.{Shelf, SentSheet, sheetOn, State, put, Possible}
 use Rattle.runs.specs.EveryRun.{SheetInOrder, AsOpened}
 use Rattle.runs.proofs.Laws.InOrder.{PlaceInOrder, is-free, holds-sheet, DeskInOrder, InOrder}
 use Rattle.runs.proofs.Laws.Line.{more-long, more-same, more-last}
@@ -95,7 +95,7 @@ module _ {shelf : Shelf} {p : ℕ} {d : Desk} (a : AsOpened shelf p d) where
 
 -- ---- write and read: the turn and the tray stay
 
-module _ {shelf : Shelf} {line : List Sheet} {p : ℕ} {d : Desk} {tray : List ℕ} (o : DeskInOrder shelf line p d tray) where
+module _ {shelf : Shelf} {line : List SentSheet} {p : ℕ} {d : Desk} {tray : List ℕ} (o : DeskInOrder shelf line p d tray) where
   as-before : (x : Desk) → AsOpened shelf p x → SameTurn d x → DeskInOrder shelf line p x tray
   as-before x opened turn =
       record {
@@ -122,13 +122,13 @@ module _ {shelf : Shelf} {line : List Sheet} {p : ℕ} {d : Desk} {tray : List �
 
 -- ---- deliver: one place of the tray
 
-same-place : (n : ℕ) (line : List Sheet) (turn : ℕ) (t u : List ℕ) (q : ℕ) → SamePlace t u q → PlaceInOrder n line turn u q → PlaceInOrder n line turn t q
+same-place : (n : ℕ) (line : List SentSheet) (turn : ℕ) (t u : List ℕ) (q : ℕ) → SamePlace t u q → PlaceInOrder n line turn u q → PlaceInOrder n line turn t q
 same-place n line turn t u q same (is-free f) = is-free (same-free t u q same ∙ f)
 same-place n line turn t u q same (holds-sheet k sent due from g e) =
     let h : holdsGood t q ≡ true = same-holds t u q same ∙ g in
     holds-sheet k sent due from h (same-sheet-held t u q same h ∙ e)
 
-module _ {shelf : Shelf} {line : List Sheet} {p : ℕ} {d : Desk} {tray : List ℕ} (o : DeskInOrder shelf line p d tray)
+module _ {shelf : Shelf} {line : List SentSheet} {p : ℕ} {d : Desk} {tray : List ℕ} (o : DeskInOrder shelf line p d tray)
     (k : ℕ) (sent : k < length line) (x : SheetInOrder shelf k (sheetOn line k)) where
   abbrev sheet : List ℕ
   sheet = sheetOn line k .bytes
@@ -136,7 +136,7 @@ module _ {shelf : Shelf} {line : List Sheet} {p : ℕ} {d : Desk} {tray : List �
   abbrev q : ℕ
   q = trailerIn sheet .sender
 
-  room : start q + 398 ≤ length tray
+  room : placeStart q + 398 ≤ length tray
   room = place-there tray (shelf .n) q (o .tray-long) (rw (x .sender) (mod-lt k (some-desks o)))
 
   few : length sheet ≤ 396
@@ -166,7 +166,7 @@ module _ {shelf : Shelf} {line : List Sheet} {p : ℕ} {d : Desk} {tray : List �
 
 -- ---- take: the next sheet
 
-module _ {shelf : Shelf} {line : List Sheet} {p : ℕ} {d : Desk} {tray : List ℕ} (o : DeskInOrder shelf line p d tray) where
+module _ {shelf : Shelf} {line : List SentSheet} {p : ℕ} {d : Desk} {tray : List ℕ} (o : DeskInOrder shelf line p d tray) where
   taken-in-order : Silent (takeRules d tray) → DeskInOrder shelf line p (takenDesk d (entriesTaken d tray)) (clearedIn tray (turnDesk (d .head)))
   unfolding takeOf
   taken-in-order silent =
@@ -197,14 +197,14 @@ module _ {shelf : Shelf} {line : List Sheet} {p : ℕ} {d : Desk} {tray : List �
 
 -- ---- send: one more sheet on the line
 
-module _ (line : List Sheet) (y : Sheet) where
-  abbrev more : List Sheet
+module _ (line : List SentSheet) (y : SentSheet) where
+  abbrev more : List SentSheet
   more = line ++ (y ∷ [])
 
   more-place : (shelf : Shelf) (turn : ℕ) (tray : List ℕ) (q : ℕ) → PlaceInOrder (shelf .n) line turn tray q → PlaceInOrder (shelf .n) more turn tray q
   more-place shelf turn tray q (is-free f) = is-free f
   more-place shelf turn tray q (holds-sheet k sent due from g e) =
-      holds-sheet k (omega (arith, more-long line y)) due from g (e ∙ ap (λ (x : Sheet). x .bytes) (sym (more-same line y k sent)))
+      holds-sheet k (omega (arith, more-long line y)) due from g (e ∙ ap (λ (x : SentSheet). x .bytes) (sym (more-same line y k sent)))
 
   more-sheets : (shelf : Shelf) → ((k : ℕ) → k < length line → SheetInOrder shelf k (sheetOn line k)) → SheetInOrder shelf (length line) y
       → (k : ℕ) → k < length more → SheetInOrder shelf k (sheetOn more k)
@@ -230,7 +230,7 @@ module _ (line : List Sheet) (y : Sheet) where
       by-test k l e (yes h) = o .past-own k h e
       by-test k l e (no h) = let z : k ≡ length line = omega (arith, more-long line y) in absurd (other (rw (← z) e))
 
-module _ {shelf : Shelf} {line : List Sheet} {p : ℕ} {d : Desk} {tray : List ℕ} (o : DeskInOrder shelf line p d tray)
+module _ {shelf : Shelf} {line : List SentSheet} {p : ℕ} {d : Desk} {tray : List ℕ} (o : DeskInOrder shelf line p d tray)
     (buffer : List ℕ) (silent : Silent (sendRules d buffer)) where
   allowed : SendAllowed d buffer
   allowed = send-allows d buffer silent
@@ -242,7 +242,7 @@ module _ {shelf : Shelf} {line : List Sheet} {p : ℕ} {d : Desk} {tray : List �
   pub number-is : d .head .turn ≡ length line
   number-is = own-last o sender-is
 
-  abbrev y : Sheet
+  abbrev y : SentSheet
   y = record { from = p; bytes = sheetBy d }
 
   sent-sheet : SheetInOrder shelf (length line) y
@@ -287,7 +287,7 @@ module _ {shelf : Shelf} {s : State} (o : InOrder shelf s) where
       k : DeskInOrder shelf (s .line) p (s .desk p) (s .tray p)
       k = o .desks p here
 
-      y′ : Sheet
+      y′ : SentSheet
       y′ = record { from = p; bytes = sheetBy (s .desk p) }
 
       other : (q : ℕ) → q ≢ p → length (s .line) % shelf .n ≢ q

@@ -8,17 +8,18 @@ use mathlib.Core.List.{List, [], _∷_, _++_}
 use native.Mathlib.Numerals.{add-one}
 use lib.ListN.{length, length-append, List·getD-append}
 use lib.Seq.{getD-append-seam}
-use Rattle.runs.specs.Run.{Sheet, sheetOn, State, after, afterAll}
+use Rattle.runs.specs.Run.{SentSheet, sheetOn, State, after, afterAll}
 use native.Mathlib.Omega.{arith}
 use Rattle.answer.specs.Answer.{Answer}
 use Rattle.desk.specs.Answers.{Value}
-use Rattle.runs.specs.Calls.{Call, document01}
+use Rattle.runs.specs.Call.{Call}
+use Rattle.desk.specs.Calls.{document01}
 use Rattle.runs.proofs.Laws.Steps.{sheetBy, Step, is-refused, is-stored, is-read, is-waiting, is-sent, is-held, is-taken, step}
 
 -- ---- one more sheet
 
-module _ (line : List Sheet) (y : Sheet) where
-  abbrev more : List Sheet
+module _ (line : List SentSheet) (y : SentSheet) where
+  abbrev more : List SentSheet
   more = line ++ (y ∷ [])
 
   pub more-long : length more ≡ suc (length line)
@@ -32,11 +33,11 @@ module _ (line : List Sheet) (y : Sheet) where
 
 -- ---- after calls
 
-pub record Longer (before now : List Sheet) : Type 0 where
-  pub long : length before ≤ length now
-  pub same : (k : ℕ) → k < length before → sheetOn now k ≡ sheetOn before k
+pub record Longer (before reached : List SentSheet) : Type 0 where
+  pub long : length before ≤ length reached
+  pub same : (k : ℕ) → k < length before → sheetOn reached k ≡ sheetOn before k
 
-as-long : {line : List Sheet} → Longer line line
+as-long : {line : List SentSheet} → Longer line line
 as-long = record { long = omega arith; same = λ k l. refl }
 
 pub longer : {s : State} {c : Call} {a : Answer Value} {t : State} → Step s c a t → Longer (s .line) (t .line)
@@ -45,7 +46,7 @@ longer (is-stored p cell c silent) = as-long
 longer (is-read p cell silent w) = as-long
 longer (is-waiting p cell silent w) = as-long
 longer {s} (is-sent p buffer silent) =
-    let y : Sheet = record { from = p; bytes = sheetBy (s .desk p) } in
+    let y : SentSheet = record { from = p; bytes = sheetBy (s .desk p) } in
     record { long = omega (arith, more-long (s .line) y); same = more-same (s .line) y }
 longer (is-held p k silent) = as-long
 longer (is-taken p silent) = as-long

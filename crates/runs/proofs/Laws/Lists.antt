@@ -8,7 +8,8 @@ use mathlib.Core.List.{List, [], _∷_, _++_}
 use Prim.Native.Nat.{ℕ}
 use Rattle.answer.specs.Answer.{Answer}
 use Rattle.desk.specs.Answers.{Value}
-use Rattle.runs.specs.Calls.{Calls, Call}
+use Rattle.runs.specs.Call.{Call}
+use Rattle.desk.specs.Calls.{Calls}
 use Rattle.runs.specs.Run.{State, made, after, Possible, Run, afterAll, answersOf}
 
 pub afterAll-append : (calls : Calls) (s : State) (cs ds : List Call) → afterAll calls s (cs ++ ds) ≡ afterAll calls (afterAll calls s cs) ds

@@ -21,8 +21,9 @@ use Rattle.desk.specs.declared.Desk.{Desk}
 use Rattle.desk.specs.Answers.{Value}
 use Rattle.refusals.specs.Rules.{trayFits}
 use Rattle.refusals.proofs.Laws.Next.{Next, next-if}
-use Rattle.runs.specs.Calls.{Call, document01, writes, reads, sends, delivers, takes}
-use Rattle.runs.specs.Run.{Shelf, Sheet, sheetOn, State, made, Possible}
+use Rattle.runs.specs.Call.{Call, writes, reads, sends, delivers, takes}
+use Rattle.desk.specs.Calls.{document01}
+use Rattle.runs.specs.Run.{Shelf, SentSheet, sheetOn, State, made, Possible}
 use Rattle.runs.specs.EveryRun.{SheetInOrder}
 use Rattle.runs.proofs.Laws.InOrder.{DeskInOrder, InOrder}
 use Rattle.runs.proofs.Laws.Order.{near, turn-desk, next-held}
@@ -30,7 +31,7 @@ use Rattle.runs.proofs.Laws.Steps.{rulesOf, Step, is-refused, is-stored
 
 -- ---- tests that pass
 
-module _ {shelf : Shelf} {line : List Sheet} {p : ℕ} {d : Desk} {tray : List ℕ} (o : DeskInOrder shelf line p d tray) where
+module _ {shelf : Shelf} {line : List SentSheet} {p : ℕ} {d : Desk} {tray : List ℕ} (o : DeskInOrder shelf line p d tray) where
   pub tray-fits : trayFits (d .head) (length tray) ≡ true
   tray-fits = eq-eqb (length tray) (398 * d .head .n) (o .tray-long ∙ ap (λ (n : ℕ). 398 * n) (sym (o .as-opened .n)))
 

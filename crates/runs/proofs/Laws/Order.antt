@@ -17,13 +17,13 @@ use Rattle.sound.specs.Head.{turnDesk}
 use Rattle.tray.specs.Tray.{free, sheetAt, holdsGood}
 use Rattle.desk.specs.declared.Desk.{Desk}
 use Rattle.desk.proofs.Laws.Allowed.{SoundDesk, desk-says}
-use Rattle.runs.specs.Run.{Shelf, Sheet, sheetOn}
+use Rattle.runs.specs.Run.{Shelf, SentSheet, sheetOn}
 use Rattle.runs.proofs.Laws.InOrder.{PlaceInOrder, is-free, holds-sheet, DeskInOrder}
 use Rattle.runs.proofs.Laws.Cyclic.{window, Next, next}
 
 -- ---- a desk in order
 
-module _ {shelf : Shelf} {line : List Sheet} {p : ℕ} {d : Desk} {tray : List ℕ} (o : DeskInOrder shelf line p d tray) where
+module _ {shelf : Shelf} {line : List SentSheet} {p : ℕ} {d : Desk} {tray : List ℕ} (o : DeskInOrder shelf line p d tray) where
   pub desk-sound : SoundDesk d
   desk-sound = desk-says d (o .as-opened .is-sound)
 
@@ -59,7 +59,7 @@ module _ {shelf : Shelf} {line : List Sheet} {p : ℕ} {d : Desk} {tray : List �
 
 -- ---- its next sheet
 
-module _ {shelf : Shelf} {line : List Sheet} {p : ℕ} {d : Desk} {tray : List ℕ} (o : DeskInOrder shelf line p d tray) where
+module _ {shelf : Shelf} {line : List SentSheet} {p : ℕ} {d : Desk} {tray : List ℕ} (o : DeskInOrder shelf line p d tray) where
   -- what the place of the desk whose turn it is holds, where it is not free
   pub record NextHeld : Type 0 where
     pub sent : d .head .turn < length line

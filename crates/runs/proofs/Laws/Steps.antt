@@ -28,9 +28,9 @@ use Rattle.pending.proofs.Laws.Sending.{sheet-long}
 use Rattle.applying.specs.Applying.{goes, wentOf}
 use Rattle.desk.specs.declared.Desk.{Desk}
 use Rattle.desk.specs.Answers.{Value, stored, holds, waits, sent, held, taken, Done, call}
-use Rattle.desk.specs.Calls.{writeRules, writtenDesk, writeOf, readRules, mustWait, waitingDesk, readOf, sendRules, sentDesk, sendOf, deliverRules, deliverOf, takeRules, entriesTaken, takenDesk, waitedFor, takeOf}
-use Rattle.runs.specs.Calls.{Calls, Call, document01, writes, reads, sends, delivers, takes, deskOf}
-use Rattle.runs.specs.Run.{Sheet, State, sheetNo, made, put, sheetLeft, after}
+use Rattle.desk.specs.Calls.{Calls, document01, writeRules, writtenDesk, writeOf, readRules, mustWait, waitingDesk, readOf, sendRules, sentDesk, sendOf, deliverRules, deliverOf, takeRules, entriesTaken, takenDesk, waitedFor, takeOf}
+use Rattle.runs.specs.Call.{Call, writes, reads, sends, delivers, takes, deskOf}
+use Rattle.runs.specs.Run.{SentSheet, State, sheetNo, made, put, sheetLeft, after}
 
 -- ---- one desk's
 
@@ -179,7 +179,7 @@ module _ (s : State) where
           rw e (subst (Step s (reads p cell) (answered (holds (contentAt (s .desk p .kind) (s .desk p .day) cell)))) (sym (same-desk p)) (is-read p cell silent e))
   step (sends p buffer) =
       by-call (λ (x : Done). Step s (sends p buffer) (x .answer) (record { desk = put (s .desk) p (x .desk); tray = s .tray; line = s .line ++ sheetLeft p (x .answer) (x .lent) })) _ _ _ _ _ _
-      (λ k first. subst (Step s (sends p buffer) (refused k)) (sym (ap (λ (l : List Sheet). record { desk = put (s .desk) p (s .desk p); tray = s .tray; line = l }) (append-nil (s .line)) ∙ same-desk p)) (is-refused (sends p buffer) k first))
+      (λ k first. subst (Step s (sends p buffer) (refused k)) (sym (ap (λ (l : List SentSheet). record { desk = put (s .desk) p (s .desk p); tray = s .tray; line = l }) (append-nil (s .line)) ∙ same-desk p)) (is-refused (sends p buffer) k first))
       (λ silent.
       subst (λ (l : List ℕ). Step s (sends p buffer) (answered (sent (s .desk p .head .turn) (length (pendingEntries (s .desk p .pkind) (s .desk p .pday))))) (record { desk = put (s .desk) p (sentDesk (s .desk p)); tray = s .tray; line = s .line ++ (record { from = p; bytes = l } ∷ []) }))
       (sym (sheet-first (s .desk p) buffer))

@@ -15,9 +15,9 @@ use Rattle.sound.specs.Head.{turnDesk}
 use Rattle.tray.specs.Tray.{clearedIn}
 use Rattle.desk.specs.declared.Desk.{Desk}
 use Rattle.desk.specs.Answers.{Value}
-use Rattle.desk.specs.Calls.{writtenDesk, waitingDesk, sentDesk, takeRules, entriesTaken, takenDesk}
+use Rattle.desk.specs.Calls.{document01, writtenDesk, waitingDesk, sentDesk, takeRules, entriesTaken, takenDesk}
 use Rattle.desk.proofs.Laws.Allowed.{take-allows}
-use Rattle.runs.specs.Calls.{Call, document01, sends, takes}
+use Rattle.runs.specs.Call.{Call, sends, takes}
 use Rattle.runs.specs.Run.{Shelf, State, made, put, after, Possible, Run, afterAll}
 use Rattle.runs.specs.TurnRules.{turnOf, OneOf, first, further, TakesSheet, takes-it}
 use Rattle.runs.proofs.Laws.InOrder.{InOrder}

@@ -21,9 +21,9 @@ use Rattle.tray.specs.Tray.{clearedIn}
 use Rattle.applying.specs.Applying.{goes, wentOf}
 use Rattle.desk.specs.declared.Desk.{Desk}
 use Rattle.desk.specs.Answers.{Value, taken}
-use Rattle.desk.specs.Calls.{readEnds, writtenDesk, waitingDesk, sentDesk, entriesTaken, takenDesk, waitedFor}
+use Rattle.desk.specs.Calls.{document01, readEnds, writtenDesk, waitingDesk, sentDesk, entriesTaken, takenDesk, waitedFor}
 use Rattle.desk.proofs.Laws.Allowed.{write-allows, read-allows, send-allows}
-use Rattle.runs.specs.Calls.{Call, document01, takes}
+use Rattle.runs.specs.Call.{Call, takes}
 use Rattle.runs.specs.Run.{Shelf, State, made, put, after, Run}
 use Rattle.runs.specs.TurnRules.{turnOf, takeOfDesk, takesBy, ReadWaits, AnswersRead, answers-it, ReadAnswered, at-this, waits-on}
 use Rattle.runs.proofs.Laws.InOrder.{InOrder}

@@ -1,4 +1,4 @@
--- Laws of `contentAt` and of its parts (specs/Parts.antt): what a word that should be a day or `open` says.
+-- Laws of `contentWordAt` and of its parts (specs/Parts.antt): what a word that should be a day or `open` says.
 --   first-place .. fourth-place, open-found, not-open, not-four    what `open_at` answers; opens-read, a set for `search`
 --   least-within, most-within                          a value that passed two tests is within them
 --   below-found, not-below                             what `below` answers; belows-read
@@ -26,8 +26,8 @@ use Rattle.text.specs.Decimal.{isDecimal, valueFrom, value, beyond, decimalAt}
 use Rattle.text.proofs.Laws.Decimal.{and-split}
 use Rattle.text.proofs.Laws.Parts.{empty, part-room, part-goes-on, part-on}
 use Rattle.schedule.specs.declared.words.Given.{Given}
-use Rattle.schedule.specs.Words.{same, is, isDay, dayIn, isContent, contentIn}
-use Rattle.schedule.specs.Parts.{wordAt, openAt, belowOf, notBelowOf, contentAt}
+use Rattle.schedule.specs.Words.{same, is, isDayWord, dayOfWord, isContentWord, contentOfWord}
+use Rattle.schedule.specs.Parts.{wordAt, openAt, belowOf, notBelowOf, contentWordAt}
 use Rattle.schedule.proofs.Laws.Words.{most-of}
 
 -- ---- open
@@ -156,15 +156,15 @@ within-off k h = rw (lt-leb k 2147483648 (omega arith)) (and-false (leb 1 k))
 
 -- what a word that ends at n says
 abbrev contentGiven : List ℕ → ℕ → Given
-contentGiven word n = record { ok = isContent word; content = cond (isContent word) (contentIn word) Blank; end = n }
+contentGiven word n = record { ok = isContentWord word; content = cond (isContentWord word) (contentOfWord word) Blank; end = n }
 
 abbrev open-if : Bool → ℕ → Given
 open-if t n = record { ok = t; content = cond t Open Blank; end = n }
 
 -- one that begins with an o is no day
 open-given : (rest : List ℕ) (n : ℕ) → open-if (is "open" (111 ∷ rest)) n ≡ contentGiven (111 ∷ rest) n
-unfolding isContent contentIn isDay isDecimal
-open-given rest n = by-test (is "open" (111 ∷ rest)) (Day (dayIn (111 ∷ rest)))
+unfolding isContentWord contentOfWord isDayWord isDecimal
+open-given rest n = by-test (is "open" (111 ∷ rest)) (Day (dayOfWord (111 ∷ rest)))
   where
     by-test : (t : Bool) (x : Content) → open-if t n ≡ record { ok = t || false; content = cond (t || false) (cond t Open x) Blank; end = n }
     by-test true x = refl
@@ -172,21 +172,21 @@ open-given rest n = by-test (is "open" (111 ∷ rest)) (Day (dayIn (111 ∷ rest
 
 -- one that begins with a minus is a day below 0 or nothing
 minus-given : (rest : List ℕ) (n : ℕ) → Givens (isDecimal rest) (value rest) (λ v. negsuc (v - 1)) (within 1 2147483648) n ≡ contentGiven (45 ∷ rest) n
-unfolding isContent contentIn isDay dayIn is
+unfolding isContentWord contentOfWord isDayWord dayOfWord is
 minus-given rest n = refl
 
 -- any other is a day from 0 on or nothing
 record Plain (word : List ℕ) : Type 0 where
   pub not-open : is "open" word ≡ false
-  pub is-day : isDay word ≡ isDecimal word && leb (value word) 2147483647
-  pub day : dayIn word ≡ pos (value word)
+  pub is-day : isDayWord word ≡ isDecimal word && leb (value word) 2147483647
+  pub day : dayOfWord word ≡ pos (value word)
 
 plain-empty : Plain []
-unfolding is isDay isDecimal dayIn value valueFrom
+unfolding is isDayWord isDecimal dayOfWord value valueFrom
 plain-empty = record { not-open = refl; is-day = refl; day = refl }
 
 plain-byte : (b : ℕ) (bs : List ℕ) → (b ≡ 111 → ⊥) → (b ≡ 45 → ⊥) → Plain (b ∷ bs)
-unfolding is isDay dayIn
+unfolding is isDayWord dayOfWord
 plain-byte b bs no-o no-minus = record { not-open = rw (ne-eqb b 111 no-o); is-day = rw (ne-eqb b 45 no-minus); day = rw (ne-eqb b 45 no-minus) }
 
 plain-word : (line : List ℕ) (from b : ℕ) → b ≡ getD line from 0 → (b ≡ 111 → ⊥) → (b ≡ 45 → ⊥) → Plain (wordAt line from)
@@ -210,14 +210,14 @@ module _ (line : List ℕ) (from : ℕ) where
           absurd (omega (arith, List·getD-eq-default line 0 (ltb-false from (length line) e)))
 
   module _ (g : Given) (b : ℕ) (first : b ≡ getD line from 0) where
-    pub content-open : b ≡ 111 → g ≡ openAt line from → g ≡ contentAt line from
-    unfolding openAt contentAt
+    pub content-open : b ≡ 111 → g ≡ openAt line from → g ≡ contentWordAt line from
+    unfolding openAt contentWordAt
     content-open e answer =
         let word = starts 111 (sym first ∙ e) (omega arith) (λ s. omega arith) in
         answer ∙ rw word (open-given (wordAt line (from + 1)) (from + suc (length (wordAt line (from + 1)))))
 
-    pub content-below : b ≡ 45 → (d : Decimal) → d ≡ decimalAt space line (from + 1) → g ≡ belowOf d → g ≡ contentAt line from
-    unfolding belowOf contentAt decimalAt
+    pub content-below : b ≡ 45 → (d : Decimal) → d ≡ decimalAt space line (from + 1) → g ≡ belowOf d → g ≡ contentWordAt line from
+    unfolding belowOf contentWordAt decimalAt
     content-below e d read answer =
         let rest = wordAt line (from + 1) in
         let word = starts 45 (sym first ∙ e) (omega arith) (λ s. omega arith) in
@@ -227,8 +227,8 @@ module _ (line : List ℕ) (from : ℕ) where
         ∙ capped-given (isDecimal rest) (value rest) (λ v. negsuc (v - 1)) (within 1 2147483648) (from + 1 + length rest) within-off
         ∙ rw (word, end-is) (minus-given rest (from + suc (length rest)))
 
-    pub content-plain : (b ≡ 111 → ⊥) → (b ≡ 45 → ⊥) → (d : Decimal) → d ≡ decimalAt space line from → g ≡ notBelowOf d → g ≡ contentAt line from
-    unfolding notBelowOf contentAt decimalAt isContent contentIn
+    pub content-plain : (b ≡ 111 → ⊥) → (b ≡ 45 → ⊥) → (d : Decimal) → d ≡ decimalAt space line from → g ≡ notBelowOf d → g ≡ contentWordAt line from
+    unfolding notBelowOf contentWordAt decimalAt isContentWord contentOfWord
     content-plain no-o no-minus d read answer =
         let word = wordAt line from in
         let plain = plain-word line from b first no-o no-minus in

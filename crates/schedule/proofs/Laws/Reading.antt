@@ -26,9 +26,9 @@ use Rattle.schedule.specs.declared.words.Number.{Number}
 use Rattle.schedule.specs.declared.words.Letter.{Letter}
 use Rattle.schedule.specs.declared.words.Given.{Given}
 use Rattle.schedule.specs.Lines.{ended}
-use Rattle.schedule.specs.Words.{is, isNumber, isDesk, isContent, contentIn}
+use Rattle.schedule.specs.Words.{is, isNumber, isDesk, isContentWord, contentOfWord}
 use Rattle.schedule.specs.Step.{writeIn, readIn, deliverIn, deskIn, stepOf, stepIn}
-use Rattle.schedule.specs.Parts.{wordAt, wordsAt, numberAt, contentAt, letterOf, letterAt}
+use Rattle.schedule.specs.Parts.{wordAt, wordsAt, numberAt, contentWordAt, letterOf, letterAt}
 use Rattle.schedule.proofs.Laws.Words.{not-before, letter-is}
 
 -- where the word ends that starts at a place
@@ -163,8 +163,8 @@ pub ruleset delivers-read = (deliver-found, deliver-bad)
 writes-by-words : (n : ℕ) (p cell c word : List ℕ) (words : List (List ℕ)) (t₁ t₂ t₃ : Bool)
     → writeIn n (p ∷ cond t₁ (cell ∷ cond t₂ (c ∷ cond t₃ (word ∷ words) []) []) [])
     ≡ cond
-    (t₁ && t₂ && not t₃ && (isDesk n p && (isNumber cell && isContent c)))
-    (some (record { desk = value p; act = writes (value cell) (contentIn c) }))
+    (t₁ && t₂ && not t₃ && (isDesk n p && (isNumber cell && isContentWord c)))
+    (some (record { desk = value p; act = writes (value cell) (contentOfWord c) }))
     none
 writes-by-words n p cell c word words false t₂ t₃ = refl
 writes-by-words n p cell c word words true false t₃ = refl
@@ -188,8 +188,8 @@ abbrev write-of : ℕ → ℕ → Number → Number → Given → Option Step
 write-of n len p cell c = cond (write-test n len p cell c) (some (record { desk = p .value; act = writes (cell .value) (c .content) })) none
 
 module _ (line : List ℕ) (from n : ℕ) where
-  writes-whole : writeIn n (wordsAt line from) ≡ write-of n (length line) (numberAt line from) (numberAt line (endAt line from + 1)) (contentAt line (endAt line (endAt line from + 1) + 1))
-  unfolding numberAt contentAt isDesk
+  writes-whole : writeIn n (wordsAt line from) ≡ write-of n (length line) (numberAt line from) (numberAt line (endAt line from + 1)) (contentWordAt line (endAt line (endAt line from + 1) + 1))
+  unfolding numberAt contentWordAt isDesk
   writes-whole =
       let len = length line in
       let e₁ = endAt line from in
@@ -198,16 +198,16 @@ module _ (line : List ℕ) (from n : ℕ) where
       by-three line from (writeIn n)
       ∙ ap (λ (l : List (List ℕ)). writeIn n (wordAt line from ∷ cond (ltb e₁ len) (wordAt line (e₁ + 1) ∷ cond (ltb e₂ len) (wordAt line (e₂ + 1) ∷ cond (ltb e₃ len) l []) []) [])) (parts-on space line (e₃ + 1))
       ∙ writes-by-words n (wordAt line from) (wordAt line (e₁ + 1)) (wordAt line (e₂ + 1)) _ _ (ltb e₁ len) (ltb e₂ len) (ltb e₃ len)
-      ∙ writes-by-numbers (ltb e₁ len && ltb e₂ len && not (ltb e₃ len)) (isNumber (wordAt line from)) (isNumber (wordAt line (e₁ + 1))) (isContent (wordAt line (e₂ + 1))) n (value (wordAt line from)) (value (wordAt line (e₁ + 1))) (contentIn (wordAt line (e₂ + 1)))
+      ∙ writes-by-numbers (ltb e₁ len && ltb e₂ len && not (ltb e₃ len)) (isNumber (wordAt line from)) (isNumber (wordAt line (e₁ + 1))) (isContentWord (wordAt line (e₂ + 1))) n (value (wordAt line from)) (value (wordAt line (e₁ + 1))) (contentOfWord (wordAt line (e₂ + 1)))
       ∙ rw (not-before e₃ len)
 
-  module _ (p cell : Number) (c : Given) (p-is : p ≡ numberAt line from) (cell-is : cell ≡ numberAt line (p .end + 1)) (c-is : c ≡ contentAt line (cell .end + 1)) where
+  module _ (p cell : Number) (c : Given) (p-is : p ≡ numberAt line from) (cell-is : cell ≡ numberAt line (p .end + 1)) (c-is : c ≡ contentWordAt line (cell .end + 1)) where
     writes-by-code : writeIn n (wordsAt line from) ≡ write-of n (length line) p cell c
     unfolding numberAt
     writes-by-code =
         writes-whole
-        ∙ ap (λ (x : Number). write-of n (length line) x (numberAt line (x .end + 1)) (contentAt line (numberAt line (x .end + 1) .end + 1))) (sym p-is)
-        ∙ ap (λ (x : Number). write-of n (length line) p x (contentAt line (x .end + 1))) (sym cell-is)
+        ∙ ap (λ (x : Number). write-of n (length line) x (numberAt line (x .end + 1)) (contentWordAt line (numberAt line (x .end + 1) .end + 1))) (sym p-is)
+        ∙ ap (λ (x : Number). write-of n (length line) p x (contentWordAt line (x .end + 1))) (sym cell-is)
         ∙ ap (write-of n (length line) p cell) (sym c-is)
 
     pub write-found : write-test n (length line) p cell c ≡ true → some (record { desk = p .value; act = writes (cell .value) (c .content) }) ≡ writeIn n (wordsAt line from)

@@ -9,7 +9,7 @@ use Rattle.numbers.specs.Numbers.{bytes}
 use Rattle.laying.specs.Laying.{laidOver}
 use Rattle.layout.specs.Values.{AreBytes}
 use Rattle.layout.proofs.Bytes.{number-bytes, zeros-bytes, append-bytes, front-bytes, back-bytes}
-use Rattle.tray.specs.Tray.{start, placeBytes, heldIn, clearedIn}
+use Rattle.tray.specs.Tray.{placeStart, placeBytes, heldIn, clearedIn}
 use Rattle.tray.proofs.Laws.Parts.{by-room}
 use Rattle.tray.proofs.Laws.Places.{by-size}
 
@@ -28,8 +28,8 @@ place-bytes s b =
 
 module _ (tray : List ℕ) (q : ℕ) where
   pub held-bytes : (s : List ℕ) → AreBytes tray → AreBytes s → AreBytes (heldIn tray q s)
-  held-bytes s t b = by-size tray q s AreBytes (λ few. laid-bytes tray (start q) (placeBytes s) t (place-bytes s b)) t
+  held-bytes s t b = by-size tray q s AreBytes (λ few. laid-bytes tray (placeStart q) (placeBytes s) t (place-bytes s b)) t
 
   pub cleared-bytes : AreBytes tray → AreBytes (clearedIn tray q)
   unfolding clearedIn
-  cleared-bytes t = laid-bytes tray (start q) (replicate 398 0) t (zeros-bytes 398)
+  cleared-bytes t = laid-bytes tray (placeStart q) (replicate 398 0) t (zeros-bytes 398)

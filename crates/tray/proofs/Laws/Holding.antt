@@ -14,7 +14,7 @@ use borrow.Author.Tests.{le-leb, lt-leb}
 use Rattle.numbers.specs.Numbers.{bytes}
 use Rattle.laying.specs.Laying.{laidOver}
 use Rattle.laying.proofs.Laws.{no-room, laid-behind}
-use Rattle.tray.specs.Tray.{start, placeBytes, heldIn, clearedIn}
+use Rattle.tray.specs.Tray.{placeStart, placeBytes, heldIn, clearedIn}
 
 -- ---- a sheet
 
@@ -26,7 +26,7 @@ module _ (tray : List ℕ) (q : ℕ) (s : List ℕ) where
   unfolding heldIn
   held-not h = rw (lt-leb (length s) 396 h)
 
-  pub held-is : length s ≤ 396 → heldIn tray q s ≡ laidOver tray (start q) (placeBytes s)
+  pub held-is : length s ≤ 396 → heldIn tray q s ≡ laidOver tray (placeStart q) (placeBytes s)
   unfolding heldIn
   held-is few = rw (le-leb (length s) 396 few)
 
@@ -35,7 +35,7 @@ module _ (tray : List ℕ) (q : ℕ) (s : List ℕ) where
 
   module _ (few : length s ≤ 396) where
     pub hold-no-room : length tray < 398 * q + 398 → tray ≡ heldIn tray q s
-    hold-no-room h = sym (held-is few ∙ no-room tray (start q) (placeBytes s) (omega (arith, place-long s few)))
+    hold-no-room h = sym (held-is few ∙ no-room tray (placeStart q) (placeBytes s) (omega (arith, place-long s few)))
 
     pub hold-whole : 398 * q + 398 ≤ length tray
         → (two : List ℕ) → two ≡ bytes 2 (length s)
@@ -68,7 +68,7 @@ pub ruleset holds = (hold-too-long, hold-no-room)
 module _ (tray : List ℕ) (q : ℕ) where
   pub clear-no-room : length tray < 398 * q + 398 → tray ≡ clearedIn tray q
   unfolding clearedIn
-  clear-no-room h = sym (no-room tray (start q) (replicate 398 0) (omega (arith, length-replicate {A = ℕ} 398 0)))
+  clear-no-room h = sym (no-room tray (placeStart q) (replicate 398 0) (omega (arith, length-replicate {A = ℕ} 398 0)))
 
   pub clear-whole : (t : List ℕ) → t ≡ laidOver tray (398 * q) (replicate (398 * q + 398 - 398 * q) 0) → t ≡ clearedIn tray q
   unfolding clearedIn

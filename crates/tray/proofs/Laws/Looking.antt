@@ -22,7 +22,7 @@ use Rattle.sheet.specs.Good.{good}
 use Rattle.sheet.specs.Reading.{readingOf, saidRead}
 use Rattle.sheet.proofs.Laws.Reading.{good-read, bad-read, saidRead-tells-apart}
 use Rattle.tray.specs.declared.Place.the-variants as place
-use Rattle.tray.specs.Tray.{start, lengthAt, free, sheetAt, restAt, zeros, holdsGood, placeOf}
+use Rattle.tray.specs.Tray.{placeStart, lengthAt, free, sheetAt, restAt, zeros, holdsGood, placeOf}
 
 pub no-byte : (l : List ℕ) (i : ℕ) → length l ≤ i → 0 ≡ at1 l i
 no-byte l i h = sym (List·getD-eq-default l 0 h)
@@ -46,16 +46,16 @@ module _ (tray : List ℕ) (q : ℕ) where
 
 module _ (s : List ℕ) (r : Reading) where
   pub said-good : (n : Numbers) → r ≡ reading.Good n → saidRead s r ≡ readingOf s → (good s ≡ true) × (n ≡ numbersOf (trailerIn s))
-  said-good n is said = by-test (good s) refl
+  said-good n is saidAnswer = by-test (good s) refl
     where
       by-test : (g : Bool) → good s ≡ g → (good s ≡ true) × (n ≡ numbersOf (trailerIn s))
       by-test true g =
-          let same : r ≡ reading.Good (numbersOf (trailerIn s)) = saidRead-tells-apart s r (reading.Good (numbersOf (trailerIn s))) (said ∙ good-read s g) in
+          let same : r ≡ reading.Good (numbersOf (trailerIn s)) = saidRead-tells-apart s r (reading.Good (numbersOf (trailerIn s))) (saidAnswer ∙ good-read s g) in
           (g, cc)
       by-test false g = let e = bad-read s g in let z : _≡_ {A = ℕ} 0 1 = cc in absurd (omega arith)
 
   pub said-bad : (k : ℕ) → r ≡ reading.Refused k → saidRead s r ≡ readingOf s → good s ≡ false
-  said-bad k is said = by-test (good s) refl
+  said-bad k is saidAnswer = by-test (good s) refl
     where
       by-test : (g : Bool) → good s ≡ g → good s ≡ false
       by-test true g = let e = good-read s g in let z : _≡_ {A = ℕ} 0 1 = cc in absurd (omega arith)
@@ -82,11 +82,11 @@ module _ (tray : List ℕ) (q len : ℕ) (is : len ≡ lengthAt tray q) where
 
     pub look-short : length tray < 398 * q + 2 + 396 → place.Spoilt ≡ placeOf tray q
     unfolding holdsGood
-    look-short h = spoilt (rw (lt-leb (start q + 398) (length tray) (omega arith)))
+    look-short h = spoilt (rw (lt-leb (placeStart q + 398) (length tray) (omega arith)))
 
     module _ (room : 398 * q + 2 + 396 ≤ length tray) where
-      has : leb (start q + 398) (length tray) ≡ true
-      has = le-leb (start q + 398) (length tray) (omega arith)
+      has : leb (placeStart q + 398) (length tray) ≡ true
+      has = le-leb (placeStart q + 398) (length tray) (omega arith)
 
       pub look-long : 396 < len → place.Spoilt ≡ placeOf tray q
       unfolding holdsGood
@@ -113,14 +113,14 @@ module _ (tray : List ℕ) (q len : ℕ) (is : len ≡ lengthAt tray q) where
               by-good = by-sheet ∙ rw (not-false z on) (and-true (good (sheetAt tray q)));
             }
 
-module _ (tray : List ℕ) (q len : ℕ) (so : BySheet tray q len) (r : Reading) (said : saidRead (take (398 * q + 2 + len - (398 * q + 2)) (drop (398 * q + 2) tray)) r ≡ readingOf (take (398 * q + 2 + len - (398 * q + 2)) (drop (398 * q + 2) tray))) where
+module _ (tray : List ℕ) (q len : ℕ) (so : BySheet tray q len) (r : Reading) (saidAnswer : saidRead (take (398 * q + 2 + len - (398 * q + 2)) (drop (398 * q + 2) tray)) r ≡ readingOf (take (398 * q + 2 + len - (398 * q + 2)) (drop (398 * q + 2) tray))) where
   sheet-is : take (398 * q + 2 + len - (398 * q + 2)) (drop (398 * q + 2) tray) ≡ sheetAt tray q
   sheet-is =
       let many : 398 * q + 2 + len - (398 * q + 2) ≡ len = omega arith in
       rw (many, so .length-is)
 
   is-said : saidRead (sheetAt tray q) r ≡ readingOf (sheetAt tray q)
-  is-said = subst (λ (s : List ℕ). saidRead s r ≡ readingOf s) sheet-is said
+  is-said = subst (λ (s : List ℕ). saidRead s r ≡ readingOf s) sheet-is saidAnswer
 
   pub look-holds : (n : Numbers) → r ≡ reading.Good n → place.Holds n ≡ placeOf tray q
   look-holds n e =

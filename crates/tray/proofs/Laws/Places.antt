@@ -24,21 +24,21 @@ use Rattle.laying.specs.Laying.{laidOver}
 use Rattle.sheet.specs.Good.{good}
 use Rattle.sheet.proofs.Laws.Bools.{and-split}
 use Rattle.sheet.proofs.Laws.Good.{good-within}
-use Rattle.tray.specs.Tray.{start, lengthAt, free, sheetAt, restAt, zeros, holdsGood, placeBytes, heldIn, clearedIn}
+use Rattle.tray.specs.Tray.{placeStart, lengthAt, free, sheetAt, restAt, zeros, holdsGood, placeBytes, heldIn, clearedIn}
 use Rattle.tray.proofs.Laws.Zeros.{zeros-are}
 use Rattle.tray.proofs.Laws.Holding.{place-long, held-not, held-is}
 use Rattle.tray.proofs.Laws.Parts.{laid-long, laid-inside, laid-before, laid-after, part-of, byte-of}
 
 -- ---- a tray of n places
 
-pub place-there : (tray : List ℕ) (n q : ℕ) → length tray ≡ 398 * n → q < n → start q + 398 ≤ length tray
+pub place-there : (tray : List ℕ) (n q : ℕ) → length tray ≡ 398 * n → q < n → placeStart q + 398 ≤ length tray
 place-there tray n q long h = omega arith
 
 -- ---- as long as before
 
 module _ (tray : List ℕ) (q : ℕ) (s : List ℕ) where
   -- a fact about what putting a sheet into a place leaves, from the two cases
-  pub by-size : (P : List ℕ → Type 0) → (length s ≤ 396 → P (laidOver tray (start q) (placeBytes s))) → P tray → P (heldIn tray q s)
+  pub by-size : (P : List ℕ → Type 0) → (length s ≤ 396 → P (laidOver tray (placeStart q) (placeBytes s))) → P tray → P (heldIn tray q s)
   by-size P put kept = by-test (leb (length s) 396) refl
     where
       by-test : (t : Bool) → leb (length s) 396 ≡ t → P (heldIn tray q s)
@@ -46,16 +46,16 @@ module _ (tray : List ℕ) (q : ℕ) (s : List ℕ) where
       by-test false e = rw (held-not tray q s (leb-false (length s) 396 e)) kept
 
   pub held-long : length (heldIn tray q s) ≡ length tray
-  held-long = by-size (λ (l : List ℕ). length l ≡ length tray) (λ few. laid-long tray (start q) (placeBytes s)) refl
+  held-long = by-size (λ (l : List ℕ). length l ≡ length tray) (λ few. laid-long tray (placeStart q) (placeBytes s)) refl
 
 pub cleared-long : (tray : List ℕ) (q : ℕ) → length (clearedIn tray q) ≡ length tray
 unfolding clearedIn
-cleared-long tray q = laid-long tray (start q) (replicate 398 0)
+cleared-long tray q = laid-long tray (placeStart q) (replicate 398 0)
 
 -- ---- what `holdsGood` says
 
 pub record HoldsGood (tray : List ℕ) (q : ℕ) : Type 0 where
-  pub room : start q + 398 ≤ length tray
+  pub room : placeStart q + 398 ≤ length tray
   pub few : lengthAt tray q ≤ 396
   pub sheet-good : good (sheetAt tray q) ≡ true
   pub rest-zeros : zeros (restAt tray q) ≡ true
@@ -77,29 +77,29 @@ module _ (tray : List ℕ) (q : ℕ) where
   pub holds-not-free : holdsGood tray q ≡ true → free tray q ≡ false
   holds-not-free h =
       let within = good-within (sheetAt tray q) (holds-says h .sheet-good) in
-      ne-eqb (lengthAt tray q) 0 (λ e. omega (arith, within .0, length-take (lengthAt tray q) (drop (start q + 2) tray)))
+      ne-eqb (lengthAt tray q) 0 (λ e. omega (arith, within .0, length-take (lengthAt tray q) (drop (placeStart q + 2) tray)))
 
 -- ---- a place by its 398 bytes
 
 abbrev pub bytesAt : List ℕ → ℕ → List ℕ
-bytesAt tray q = take 398 (drop (start q) tray)
+bytesAt tray q = take 398 (drop (placeStart q) tray)
 
 module _ (tray : List ℕ) (q : ℕ) where
   length-in : lengthAt tray q ≡ at2 (bytesAt tray q) 0
   length-in =
-      let low : at1 tray (start q) ≡ at1 (bytesAt tray q) 0 = ap (at1 tray) (sym (add-zero (start q))) ∙ sym (byte-of tray 398 (start q) 0 (omega arith)) in
-      let high : at1 tray (start q + 1) ≡ at1 (bytesAt tray q) 1 = sym (byte-of tray 398 (start q) 1 (omega arith)) in
+      let low : at1 tray (placeStart q) ≡ at1 (bytesAt tray q) 0 = ap (at1 tray) (sym (add-zero (placeStart q))) ∙ sym (byte-of tray 398 (placeStart q) 0 (omega arith)) in
+      let high : at1 tray (placeStart q + 1) ≡ at1 (bytesAt tray q) 1 = sym (byte-of tray 398 (placeStart q) 1 (omega arith)) in
       omega arith
 
   module _ (few : lengthAt tray q ≤ 396) where
     sheet-in : sheetAt tray q ≡ take (lengthAt tray q) (drop 2 (bytesAt tray q))
-    sheet-in = sym (part-of tray 398 (start q) 2 (lengthAt tray q) (omega arith))
+    sheet-in = sym (part-of tray 398 (placeStart q) 2 (lengthAt tray q) (omega arith))
 
     rest-in : restAt tray q ≡ take (396 - lengthAt tray q) (drop (2 + lengthAt tray q) (bytesAt tray q))
     rest-in =
-        let there : start q + 2 + lengthAt tray q ≡ start q + (2 + lengthAt tray q) = omega arith in
+        let there : placeStart q + 2 + lengthAt tray q ≡ placeStart q + (2 + lengthAt tray q) = omega arith in
         ap (λ (k : ℕ). take (396 - lengthAt tray q) (drop k tray)) there
-        ∙ sym (part-of tray 398 (start q) (2 + lengthAt tray q) (396 - lengthAt tray q) (omega arith))
+        ∙ sym (part-of tray 398 (placeStart q) (2 + lengthAt tray q) (396 - lengthAt tray q) (omega arith))
 
 -- ---- a sheet that was put into a place
 
@@ -129,45 +129,45 @@ held-by tray q s few e =
     record { length-is = long; sheet-is = sheet; rest-zeros = ap zeros rest ∙ zeros-are (396 - length s) }
 
 module _ (tray : List ℕ) (q : ℕ) (s : List ℕ) where
-  pub held-found : length s ≤ 396 → start q + 398 ≤ length tray → Held (heldIn tray q s) q s
+  pub held-found : length s ≤ 396 → placeStart q + 398 ≤ length tray → Held (heldIn tray q s) q s
   held-found few room =
       let all = place-long s few in
       held-by (heldIn tray q s) q s few
       (ap (λ (l : List ℕ). bytesAt l q) (held-is tray q s few)
-      ∙ ap (λ (n : ℕ). take n (drop (start q) (laidOver tray (start q) (placeBytes s)))) (sym all)
-      ∙ laid-inside tray (start q) (placeBytes s) (omega arith))
+      ∙ ap (λ (n : ℕ). take n (drop (placeStart q) (laidOver tray (placeStart q) (placeBytes s)))) (sym all)
+      ∙ laid-inside tray (placeStart q) (placeBytes s) (omega arith))
 
-  pub held-holds : length s ≤ 396 → start q + 398 ≤ length tray → holdsGood (heldIn tray q s) q ≡ good s
+  pub held-holds : length s ≤ 396 → placeStart q + 398 ≤ length tray → holdsGood (heldIn tray q s) q ≡ good s
   unfolding holdsGood
   held-holds few room =
       let found = held-found few room in
-      rw (le-leb (start q + 398) (length (heldIn tray q s)) (omega (arith, held-long tray q s)), le-leb (lengthAt (heldIn tray q s) q) 396 (omega (arith, found .length-is)), found .sheet-is, found .rest-zeros)
+      rw (le-leb (placeStart q + 398) (length (heldIn tray q s)) (omega (arith, held-long tray q s)), le-leb (lengthAt (heldIn tray q s) q) 396 (omega (arith, found .length-is)), found .sheet-is, found .rest-zeros)
       (and-true (good s))
 
 -- ---- a place that was cleared
 
-pub cleared-free : (tray : List ℕ) (q : ℕ) → start q + 398 ≤ length tray → free (clearedIn tray q) q ≡ true
+pub cleared-free : (tray : List ℕ) (q : ℕ) → placeStart q + 398 ≤ length tray → free (clearedIn tray q) q ≡ true
 unfolding clearedIn
 cleared-free tray q room =
     let many : length (replicate {A = ℕ} 398 0) ≡ 398 = length-replicate {A = ℕ} 398 0 in
-    let all : bytesAt (clearedIn tray q) q ≡ replicate 398 0 = laid-inside tray (start q) (replicate 398 0) (omega arith) in
+    let all : bytesAt (clearedIn tray q) q ≡ replicate 398 0 = laid-inside tray (placeStart q) (replicate 398 0) (omega arith) in
     eq-eqb (lengthAt (clearedIn tray q) q) 0 (length-in (clearedIn tray q) q ∙ ap (λ (l : List ℕ). at2 l 0) all)
 
 -- ---- the other places
 
 pub record SamePlace (t u : List ℕ) (p : ℕ) : Type 0 where
   pub long : length t ≡ length u
-  pub bytes : take 398 (drop (start p) t) ≡ take 398 (drop (start p) u)
+  pub bytes : take 398 (drop (placeStart p) t) ≡ take 398 (drop (placeStart p) u)
 
-others : (tray : List ℕ) (p q : ℕ) (x : List ℕ) → (p ≡ q → ⊥) → length x ≡ 398 → SamePlace (laidOver tray (start q) x) tray p
-others tray p q x apart many = record { long = laid-long tray (start q) x; bytes = by-test (ltb p q) refl }
+others : (tray : List ℕ) (p q : ℕ) (x : List ℕ) → (p ≡ q → ⊥) → length x ≡ 398 → SamePlace (laidOver tray (placeStart q) x) tray p
+others tray p q x apart many = record { long = laid-long tray (placeStart q) x; bytes = by-test (ltb p q) refl }
   where
-    by-test : (t : Bool) → ltb p q ≡ t → bytesAt (laidOver tray (start q) x) p ≡ bytesAt tray p
-    by-test true e = let before = ltb-true p q e in laid-before tray (start q) x (start p) 398 (omega arith)
+    by-test : (t : Bool) → ltb p q ≡ t → bytesAt (laidOver tray (placeStart q) x) p ≡ bytesAt tray p
+    by-test true e = let before = ltb-true p q e in laid-before tray (placeStart q) x (placeStart p) 398 (omega arith)
     by-test false e =
         let after = ltb-false p q e in
         let further : q < p = omega arith in
-        ap (take 398) (laid-after tray (start q) x (start p) (omega arith))
+        ap (take 398) (laid-after tray (placeStart q) x (placeStart p) (omega arith))
 
 pub held-others : (tray : List ℕ) (p q : ℕ) (s : List ℕ) → (p ≡ q → ⊥) → SamePlace (heldIn tray q s) tray p
 held-others tray p q s apart =

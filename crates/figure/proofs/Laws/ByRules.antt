@@ -1,0 +1,48 @@
+-- A call goes by its rules (specs/Demand2.antt, `ByRules`): every call of document 01 is stated by `answer` and `leaves` over its rules
+-- (crates/desk/specs/Answers.antt, `call`), so the laws of those say it.
+--   by-call          so it is of a call, where what is carried out is as it should be
+--   next             the next record of such a call: a record that the call leaves sound is sound
+--   either           a rule applies, or none does
+--   settled          two outcomes by the same rules are the same, where two that are carried out are
+-- Assumes nothing.
+use Prim.Native.Nat.{ℕ}
+use mathlib.Core.Path.{_≡_, refl, sym, _∙_, subst}
+use mathlib.Core.Bool.{Bool, true, false}
+use mathlib.Core.List.{List, [], _∷_}
+use Rattle.answer.specs.Answer.{Rule, answered, leaves}
+use Rattle.answer.specs.Promises.{Silent, First, this, later}
+use Rattle.answer.proofs.Laws.{answered-if, changed-if, refused-if, unchanged-if}
+use Rattle.desk.specs.declared.Desk.{Desk}
+use Rattle.desk.specs.Answers.{Value, Done, call}
+use Rattle.desk.specs.Calls.{sound}
+use Rattle.desk.specs.Values.{DeskFits}
+use Rattle.figure.specs.Demand2.{ByRules}
+
+pub by-call : (rules : List Rule) (d : Desk) (lent : List ℕ) (v : Value) (d′ : Desk) (lent′ : List ℕ) (CarriedOut : Done → Type 0)
+    → (Silent rules → CarriedOut (record { answer = answered v; desk = d′; lent = lent′ })) → ByRules rules d lent CarriedOut (call rules d lent v d′ lent′)
+by-call rules d lent v d′ lent′ CarriedOut so =
+    record {
+      refused-with = λ k first. λ i. record { answer = refused-if v first i; desk = unchanged-if d d′ first i; lent = unchanged-if lent lent′ first i };
+      carried-out = λ silent.
+          subst CarriedOut
+          (λ i. record { answer = sym (answered-if rules v silent) i; desk = sym (changed-if rules d d′ silent) i; lent = sym (changed-if rules lent lent′ silent) i })
+          (so silent);
+    }
+
+-- what is so of the record that a call leaves is so of the next record, where the call is carried out
+pub next : (P : Desk → Type 0) (rules : List Rule) (d d′ : Desk) → Silent rules → P (leaves rules d d′) → P d′
+next P rules d d′ silent = subst P (changed-if rules d d′ silent)
+
+pub either : {X : Type 0} (rules : List Rule) → ((k : ℕ) → First k rules → X) → (Silent rules → X) → X
+either [] some none = none tt
+either {X} (r ∷ rs) some none = by-test (r .applies) refl (λ same. either rs (λ k first. some k (later same first)) (λ silent. none (same, silent)))
+  where
+    by-test : (t : Bool) → r .applies ≡ t → (r .applies ≡ false → X) → X
+    by-test true e rest = some (r .number) (this e refl)
+    by-test false e rest = rest e
+
+pub settled : (rules : List Rule) (d : Desk) (lent : List ℕ) (CarriedOut : Done → Type 0) (done done′ : Done)
+    → ByRules rules d lent CarriedOut done → ByRules rules d lent CarriedOut done′
+    → (Silent rules → CarriedOut done → CarriedOut done′ → done ≡ done′) → done ≡ done′
+settled rules d lent CarriedOut done done′ one other same =
+    either rules (λ k first. one .refused-with k first ∙ sym (other .refused-with k first)) (λ silent. same silent (one .carried-out silent) (other .carried-out silent))

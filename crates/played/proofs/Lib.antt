@@ -1,4 +1,0 @@
-pub mod Laws
-pub mod Played
-pub mod Wrong
-pub mod TheEndComes

@@ -1,3 +1,0 @@
-pub mod Played
-pub mod Wrong
-pub mod TheEndComes

@@ -1,0 +1,5 @@
+pub mod RunsPlayed
+pub mod Changed
+pub mod WrongRuns
+pub mod WrongDesks
+pub mod TheEndComes
