@@ -1,6 +1,6 @@
--- Laws of a year's months, leap years and others alike (`lengthIn`, specs/Calendar.antt): one test of every month, which antt computes, and what
--- follows from it at each.
---   month                                of month m: the table's days before it, the bounds on these, and its length's
+-- Laws of a year's months, leap years and others alike (`lengthIn`, specs/Calendar.antt): one test of every month over both tables of the
+-- code, which antt computes, and what follows from it at each.
+--   month                                of month m: its length and the days before it by the tables, and bounds on both
 --   month-guessed, month-after-guess     so the month of day j is j / 32, or the next if that one begins by then
 -- Assumes nothing.
 use mathlib.Core.Path.{_≡_, subst}
@@ -18,18 +18,23 @@ use Rattle.calendar.specs.Spans.{before, spanOf}
 use Rattle.calendar.specs.Calendar.{lengthIn}
 use Rattle.calendar.proofs.Laws.Spans.{before-orders, span-found}
 
--- the table of the code: the days before each month of a year that is no leap year, and those of the year
+-- the tables of the code, LENGTHS and BEFORE, of a year that is no leap year: the length of each month; the days before each, and those of
+-- the year
+abbrev pub lengths : List ℕ
+lengths = 31 ∷ 28 ∷ 31 ∷ 30 ∷ 31 ∷ 30 ∷ 31 ∷ 31 ∷ 30 ∷ 31 ∷ 30 ∷ 31 ∷ []
+
 abbrev pub daysBefore : List ℕ
 daysBefore = 0 ∷ 31 ∷ 59 ∷ 90 ∷ 120 ∷ 151 ∷ 181 ∷ 212 ∷ 243 ∷ 273 ∷ 304 ∷ 334 ∷ 365 ∷ []
 
 -- ---- the test
 
--- of month m, or of the year's end at 12, in a leap year or not: the table is right there, the month begins by 32 days for each before it and
--- at most 32 days earlier, and it has from 1 to 31 days
+-- of month m, or of the year's end at 12, in a leap year or not: both tables are right there, the month begins by 32 days for each before
+-- it and at most 32 days earlier, and it has from 1 to 31 days
 unfoldable right : Bool → ℕ → Bool
 right l m =
     let days = before (lengthIn l) m in
-    eqb days (getD daysBefore m 0 + cond (l && leb 2 m) 1 0)
+    eqb (lengthIn l m) (getD lengths m 0 + cond (l && eqb m 1) 1 0)
+    && eqb days (getD daysBefore m 0 + cond (l && leb 2 m) 1 0)
     && leb days (32 * m) && leb (32 * m) (days + 32) && leb (lengthIn l m) 31 && leb 12 (m + lengthIn l m)
 
 -- the test passes at each month below n
@@ -52,6 +57,8 @@ tested false = tt
 -- ---- what it shows of month m
 
 pub record Month (l : Bool) (m : ℕ) : Type 0 where
+  -- at 12, past December, both sides are 0
+  pub lasts : lengthIn l m ≡ getD lengths m 0 + cond (l && eqb m 1) 1 0
   pub begins : before (lengthIn l) m ≡ getD daysBefore m 0 + cond (l && leb 2 m) 1 0
   pub by : before (lengthIn l) m ≤ 32 * m
   pub after : 32 * m ≤ before (lengthIn l) m + 32
@@ -63,15 +70,25 @@ pub month : (l : Bool) (m : ℕ) → m ≤ 12 → Month l m
 unfolding right
 month l m h =
     let days = before (lengthIn l) m in
+    let lasts? = eqb (lengthIn l m) (getD lengths m 0 + cond (l && eqb m 1) 1 0) in
     let begins? = eqb days (getD daysBefore m 0 + cond (l && leb 2 m) 1 0) in
     let by? = leb days (32 * m) in
     let after? = leb (32 * m) (days + 32) in
     let short? = leb (lengthIn l m) 31 in
-    let five = and-yes (begins? && by? && after? && short?) (leb 12 (m + lengthIn l m)) (at (right l) 13 (tested l) m (omega arith)) in
-    let four = and-yes (begins? && by? && after?) short? (five .0) in
-    let three = and-yes (begins? && by?) after? (four .0) in
-    let two = and-yes begins? by? (three .0) in
-    record { begins = eqb-yes (two .0); by = leb-yes (two .1); after = leb-yes (three .1); short = leb-yes (four .1); some = leb-yes (five .1) }
+    let some? = leb 12 (m + lengthIn l m) in
+    let six = and-yes (lasts? && begins? && by? && after? && short?) some? (at (right l) 13 (tested l) m (omega arith)) in
+    let five = and-yes (lasts? && begins? && by? && after?) short? (six .0) in
+    let four = and-yes (lasts? && begins? && by?) after? (five .0) in
+    let three = and-yes (lasts? && begins?) by? (four .0) in
+    let two = and-yes lasts? begins? (three .0) in
+    record {
+      lasts = eqb-yes (two .0);
+      begins = eqb-yes (two .1);
+      by = leb-yes (three .1);
+      after = leb-yes (four .1);
+      short = leb-yes (five .1);
+      some = leb-yes (six .1);
+    }
 
 -- ---- the inverse: the month of a day
 

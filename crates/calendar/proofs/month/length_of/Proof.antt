@@ -1,8 +1,8 @@
--- `calendar::month::length_of` meets its contract: its table is the definition's, and the leap day is added in the same case.
+-- `calendar::month::length_of` meets its contract: its table is right at each month, and the leap day is February's.
 -- Assumes nothing.
 use native.Mathlib.Omega.{arith}
 use borrow.Author.Needs.{needs}
-use Rattle.calendar.specs.Calendar.{leap, lengthIn}
+use Rattle.calendar.specs.Calendar.{leap}
 use Rattle.calendar.proofs.Laws.Month.{month}
 use Rattle.calendar.proofs.month.length_of.Statement.{statement}
 use Rattle.calendar.proofs.month.length_of.Tie as tie
@@ -14,18 +14,19 @@ is-leap-requires : tie.Need-is-leap-requires
 is-leap-requires c κs = search needs
 
 returns : tie.Need-returns
-unfolding lengthIn
-returns c = rw (← c .before .is-leap .ensures, c .if1 .taken)
+returns c =
+    let s = c .before .before in
+    rw (month (leap (s .args .year)) (s .args .m) (search needs) .lasts, ← c .before .is-leap .ensures, c .if1 .taken)
 
 add-result : tie.Need-add-result
-unfolding lengthIn
 add-result c =
     let s = c .before .before in
     record { fits = omega (arith, returns c, month (leap (s .args .year)) (s .args .m) (search needs) .short) }
 
 returns-2 : tie.Need-returns-2
-unfolding lengthIn
-returns-2 c = rw (← c .before .is-leap .ensures, c .if1 .left) (omega arith)
+returns-2 c =
+    let s = c .before .before in
+    rw (month (leap (s .args .year)) (s .args .m) (search needs) .lasts, ← c .before .is-leap .ensures, c .if1 .left) (omega arith)
 
 pub length-of-spec : {M : Type 1} → statement M
 length-of-spec = tie.close (tie.spec array-read-days is-leap-requires add-result returns returns-2)
