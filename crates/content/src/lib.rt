@@ -1,15 +1,7 @@
 // What a cell holds, and how an image stands on a day. 01, "The shelf and what a cell holds".
 //
-// How to read a promise here and in every other crate. `ensures { λ r. ⌜ .. ⌝ }` says what holds of
-// the result r, for every input: no public function has a `requires`. The names in it are
-// definitions of this crate's specs/ folder or another's, each beside the sentence that it stands
-// for; the structs and enums of src/; or words of the kit's logic. Of these, `pos n` is n and
-// `negsuc n` is -(n + 1); `n - m` of natural numbers is 0 where m is greater, and `n % 0` is n;
-// `getD l i x` is element i, or x past the end, and `take` and `drop` stop at the end; `cond t a b`
-// is a where t holds, else b; `eqb`, `leb`, `ltb` test =, ≤, <; `toZ w32` and `ofZ w32` go between
-// a pattern of 32 bits and its signed number. An unsigned number is a natural number and a signed
-// one an integer, of the same value; `now (s .entry)` is the list of a lent slice's elements at the
-// call, `now (s .exit)` the same at the end. A promise is proved of the source that is compiled; nobody has to test it to rely on it.
+// How a promise is read, here and in every other crate, is said in docs/READING.md, with the kit's
+// words that stand in one.
 ghost use mathlib.Core.Path.{_≡_};
 ghost use lib.IntN.{_-ℤ_};
 ghost use Rattle.answer.specs.Answer.{answered};
