@@ -31,6 +31,14 @@ use Rattle.desk.specs.Answers.{opened, stored, holds, waits, sent, held,
 abbrev pub sound : Desk → Bool
 sound d = soundOf (d .head) (d .kind) (d .day) (d .pkind) (d .pday)
 
+-- what the shelf has in a cell, as an answer carries it
+abbrev pub shownAt : Desk → ℕ → Content
+shownAt d cell = contentAt (d .kind) (d .day) cell
+
+-- the record with this head
+abbrev pub withHead : Head → Desk → Desk
+withHead h d = record { head = h; kind = d .kind; day = d .day; pkind = d .pkind; pday = d .pday }
+
 -- ---- Open
 
 -- "Open: 1, 2, 3, 4."
@@ -95,19 +103,13 @@ mustWait d cell = sequential (d .head) && anywhere 64 (filled (d .pkind)) && bla
 abbrev pub waitingDesk : Desk → ℕ → Desk
 waitingDesk d cell =
     let h = d .head in
-    record {
-      head = record { n = h .n; m = h .m; own = h .own; mode = h .mode; turn = h .turn; wait = cell + 1 };
-      kind = d .kind;
-      day = d .day;
-      pkind = d .pkind;
-      pday = d .pday;
-    }
+    withHead (record { n = h .n; m = h .m; own = h .own; mode = h .mode; turn = h .turn; wait = cell + 1 }) d
 
 -- "Otherwise it answers the cell."
 unfoldable pub readOf : Desk → ℕ → Done
 readOf d cell =
     call (readRules d cell) d []
-    (cond (mustWait d cell) waits (holds (contentAt (d .kind) (d .day) cell)))
+    (cond (mustWait d cell) waits (holds (shownAt d cell)))
     (cond (mustWait d cell) (waitingDesk d cell) d)
     []
 
@@ -185,7 +187,7 @@ takenDesk d es =
 
 -- "the answer carries that cell's content", as the shelf has it after the entries
 abbrev pub waitedFor : Head → Desk → Option Content
-waitedFor h after = cond (readEnds h) (some (contentAt (after .kind) (after .day) (waitCell h))) none
+waitedFor h after = cond (readEnds h) (some (shownAt after (waitCell h))) none
 
 -- "The place becomes zeros"
 unfoldable pub takeOf : Desk → List ℕ → Done

@@ -12,13 +12,12 @@ use lib.ListN.{length}
 use Rattle.answer.specs.Answer.{refused, answered, accepted}
 use Rattle.content.specs.declared.Content.{Content}
 use Rattle.layout.specs.Layout.{trailerIn}
-use Rattle.cells.specs.Cells.{contentAt}
 use Rattle.sound.specs.Head.{turnDesk, ownTurn, readWaits, waitCell}
 use Rattle.tray.specs.Tray.{sheetAt}
 use Rattle.refusals.specs.Rules.{lastTurn}
 use Rattle.desk.specs.Answers.{Value, waits, sent, held, taken}
 use Rattle.runs.specs.Call.{Call, writes, reads, sends, delivers, takes}
-use Rattle.desk.specs.Calls.{Calls}
+use Rattle.desk.specs.Calls.{Calls, shownAt}
 use Rattle.runs.specs.Run.{Shelf, State, sheetNo, start, made, after, Possible, Run, RunOn, reached}
 
 -- ---- words of the demand
@@ -107,7 +106,7 @@ ReadWaits s p cell = (readWaits (s .desk p .head) ≡ true) × (waitCell (s .des
 pub data AnswersRead (calls : Calls) (p cell : ℕ) (s : State) : Call → Type 0 where
   answers-it : (turn entries applied : ℕ) (c : Content)
       → made calls s (takes p) .answer ≡ answered (taken turn entries applied (some c))
-      → (let d = after calls s (takes p) .desk p in c ≡ contentAt (d .kind) (d .day) cell)
+      → c ≡ shownAt (after calls s (takes p) .desk p) cell
       → readWaits (after calls s (takes p) .desk p .head) ≡ false
       → AnswersRead calls p cell s (takes p)
 

@@ -5,10 +5,9 @@ use mathlib.Core.List.{List}
 use Prim.Native.Nat.{ℕ}
 use Rattle.answer.specs.Answer.{Answer, refused, answered}
 use Rattle.content.specs.declared.Content.{Content}
-use Rattle.sound.specs.declared.Head.{Head}
 use Rattle.desk.specs.declared.Desk.{Desk}
 use Rattle.desk.specs.Answers.{Value, opened, stored, holds, waits, sent, held, taken, Done}
-use Rattle.desk.specs.Calls.{Calls, openOf}
+use Rattle.desk.specs.Calls.{Calls, openOf, withHead}
 
 -- ---- calls
 
@@ -30,9 +29,6 @@ abbrev pub withLent : List ℕ → Done → Done
 withLent lent done = record { answer = done .answer; desk = done .desk; lent = lent }
 
 -- ---- a record
-
-abbrev pub withHead : Head → Desk → Desk
-withHead h d = record { head = h; kind = d .kind; day = d .day; pkind = d .pkind; pday = d .pday }
 
 -- with the shelf of this one, or with its pending entries
 abbrev pub withShelfOf : Desk → Desk → Desk

@@ -12,14 +12,14 @@ use lib.IntN.{pos}
 use Rattle.answer.specs.Answer.{refused}
 use Rattle.content.specs.declared.Content.{Content}
 use Rattle.content.specs.declared.Content.the-variants.{Blank, Open, Day}
-use Rattle.cells.specs.Cells.{contentAt, filled, anywhere}
+use Rattle.cells.specs.Cells.{filled, anywhere}
 use Rattle.layout.specs.declared.Entry.{Entry}
 use Rattle.sound.specs.declared.Head.{Head}
 use Rattle.sound.specs.Head.{sequential, causal, ownTurn}
 use Rattle.applying.specs.Applying.{goes, laid, kindOn, dayOn}
 use Rattle.desk.specs.declared.Desk.{Desk}
 use Rattle.desk.specs.Answers.{holds, waits, Done, call}
-use Rattle.desk.specs.Calls.{Calls, writeOf, readRules, waitingDesk, readOf, sendOf, deliverOf, entriesTaken, takeOf}
+use Rattle.desk.specs.Calls.{Calls, shownAt, writeOf, readRules, waitingDesk, readOf, sendOf, deliverOf, entriesTaken, takeOf}
 use Rattle.figure.specs.Demand2.{Demand2, zeros}
 use Rattle.witness.specs.Changed.{callsWith, withAnswer, withDesk, withLent, withShelfOf, withPendingOf, answering, contents}
 use Rattle.witness.specs.WrongRuns.{readEndsAtSend}
@@ -128,7 +128,7 @@ ownCellWaits =
     callsWith writeOf
     (λ d cell.
     call (readRules d cell) d []
-    (cond (mustWaitTooOften d) waits (holds (contentAt (d .kind) (d .day) cell)))
+    (cond (mustWaitTooOften d) waits (holds (shownAt d cell)))
     (cond (mustWaitTooOften d) (waitingDesk d cell) d)
     [])
     sendOf deliverOf takeOf

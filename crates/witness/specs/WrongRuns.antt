@@ -11,11 +11,11 @@ use Rattle.content.specs.declared.Content.the-variants.{Day}
 use Rattle.layout.specs.Layout.{trailerIn}
 use Rattle.desk.specs.declared.Desk.{Desk}
 use Rattle.desk.specs.Answers.{Done}
-use Rattle.desk.specs.Calls.{Calls, writeOf, readOf, sendRules, sendOf, deliverOf, takeOf}
+use Rattle.desk.specs.Calls.{Calls, withHead, writeOf, readOf, sendRules, sendOf, deliverOf, takeOf}
 use Rattle.runs.specs.Call.{Call, writes, sends, delivers, takes, sheetRoom}
 use Rattle.runs.specs.Run.{Shelf, RunOn}
 use Rattle.runs.specs.TurnRules.{OneTurn, OneSheet, Never, GoesOn, WaitEnds}
-use Rattle.witness.specs.Changed.{callsWith, withDesk, withLent, withHead, withWait}
+use Rattle.witness.specs.Changed.{callsWith, withDesk, withLent, withWait}
 use Rattle.witness.specs.RunsPlayed.{twoDesks, threeDesks, threeSheets}
 
 -- such a run, after which this part is false
