@@ -6,19 +6,16 @@
 use mathlib.Core.Path.{_≡_, refl, sym, ap, _∙_}
 use mathlib.Core.Bool.{Bool, true, _&&_}
 use mathlib.Core.List.{List, [], _∷_}
-use mathlib.Core.Option.{Option, none, some}
+use mathlib.Core.Option.{none, some}
 use Prim.Native.Nat.{ℕ, zero, suc, _+_, _≤_}
 use native.Mathlib.Omega.{arith}
 use lib.Dec.{ltb}
 use lib.IntN.{pos}
 use lib.ListN.{replicate}
 use borrow.Author.Tests.{ltb-true}
-use mir.Syntax.{w32}
-use mir.Val.{SFits}
 use Rattle.answer.specs.Answer.{Answer, refused, answered}
-use Rattle.content.specs.declared.Content.{Content}
 use Rattle.content.specs.declared.Content.the-variants.{Open, Day}
-use Rattle.content.specs.Content.{kindOf, dayOf}
+use Rattle.content.specs.Content.{kindOf}
 use Rattle.cells.specs.Cells.{kindAt}
 use Rattle.layout.specs.Values.{AreBytes}
 use Rattle.sheet.proofs.Laws.Bools.{and-split}

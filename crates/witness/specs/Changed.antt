@@ -1,6 +1,6 @@
 -- What wrong calls are made of: document 01's calls with some of them changed, and an outcome of a call with a part of it changed.
 -- Assumes nothing.
-use mathlib.Core.Option.{Option, none, some}
+use mathlib.Core.Option.{none, some}
 use mathlib.Core.List.{List}
 use Prim.Native.Nat.{ℕ}
 use Rattle.answer.specs.Answer.{Answer, refused, answered}

@@ -12,15 +12,13 @@ use borrow.Author.Tests.{ltb-true, ltb-false}
 use Rattle.answer.proofs.Laws.{answered-if}
 use Rattle.cells.specs.Cells.{placeAt}
 use Rattle.cells.proofs.Laws.{in-place, no-place}
-use Rattle.desk.specs.declared.Desk.{Desk}
 use Rattle.desk.specs.Answers.{opened}
-use Rattle.desk.specs.Calls.{sound, openRules, blankDesk, freshHead, modeFor, openOf}
-use Rattle.desk.specs.Values.{DeskFits}
+use Rattle.desk.specs.Calls.{openRules, blankDesk, freshHead, modeFor, openOf}
 use Rattle.keeping.proofs.Laws.Open.{open-sound, open-fits}
 use Rattle.figure.specs.Figure1.{initial}
 use Rattle.figure.specs.Map.{neverWritten, processOf, received}
 use Rattle.figure.specs.Demand2.{ByRules, Initialization, zeros}
-use Rattle.figure.proofs.Laws.ByRules.{by-call, next}
+use Rattle.figure.proofs.Laws.ByRules.{by-call, next-keeps}
 use Rattle.figure.proofs.Laws.Maps.{same-process}
 
 -- every place of 64 that are alike is the same
@@ -45,14 +43,6 @@ open-by-rules n m own mode =
     record {
       answer = refl;
       process = fresh-process n m own (modeFor mode);
-      keeps = record {
-        desks = refl;
-        cells = refl;
-        own-number = refl;
-        mode-number = refl;
-        turn-number = refl;
-        is-sound = next (λ (x : Desk). sound x ≡ true) rules zeros fresh silent (open-sound n m own mode (answered-if rules opened silent));
-        fits = next DeskFits rules zeros fresh silent (open-fits n m own mode);
-      };
+      keeps = next-keeps rules zeros fresh silent (open-sound n m own mode (answered-if rules opened silent)) (open-fits n m own mode);
       none-lent = refl;
     })

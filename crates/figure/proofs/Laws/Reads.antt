@@ -9,22 +9,22 @@ use mathlib.Core.Option.{none, some, Option·some-ne-none}
 use native.Mathlib.Omega.{arith}
 use lib.Dec.{eqb}
 use borrow.Author.Tests.{eqb-false, ne-eqb, not-true}
-use Rattle.answer.specs.Answer.{Rule, answered}
+use Rattle.answer.specs.Answer.{Rule}
 use Rattle.answer.specs.Promises.{Silent}
 use Rattle.content.specs.declared.Content.{Content}
 use Rattle.cells.specs.Cells.{contentAt, blank, filled, anywhere}
 use Rattle.sheet.proofs.Laws.Bools.{and-split}
 use Rattle.sound.specs.Head.{ownTurn, turnDesk, readWaits}
 use Rattle.desk.specs.declared.Desk.{Desk}
-use Rattle.desk.specs.Answers.{Value, Done, holds, waits}
-use Rattle.desk.specs.Calls.{sound, readRules, mustWait, waitingDesk, readOf}
+use Rattle.desk.specs.Answers.{Value, holds, waits}
+use Rattle.desk.specs.Calls.{readRules, mustWait, waitingDesk, readOf}
 use Rattle.desk.specs.Values.{DeskFits}
 use Rattle.desk.proofs.Laws.Allowed.{read-allows}
 use Rattle.keeping.proofs.Laws.Read.{read-sound, read-fits}
 use Rattle.figure.specs.Figure1.{Model, sequential, causal, cache, ∅, Waits, Event, reads, blocks, read, block}
 use Rattle.figure.specs.Map.{modelOf, processOf}
-use Rattle.figure.specs.Demand2.{ByRules, StepOf, Next, ReadShows, returns, begins-to-wait, ReadStep}
-use Rattle.figure.proofs.Laws.ByRules.{by-call, next}
+use Rattle.figure.specs.Demand2.{ByRules, StepOf, Keeps, Next, ReadShows, returns, begins-to-wait, ReadStep}
+use Rattle.figure.proofs.Laws.ByRules.{by-call, next-keeps}
 use Rattle.figure.proofs.Laws.Maps.{no-updates, some-updates, same-process}
 
 -- ---- models
@@ -131,14 +131,14 @@ module _ (d : Desk) (cell : ℕ) (fits : DeskFits d) where
           (block (processOf d tray) cell quiet (waits-only-if d tray cell p)))
       by-test false p = rw p (read (processOf d tray) cell quiet (λ w. false≢true (sym p ∙ waits-if d tray cell w)))
 
-  keeps : sound after ≡ true → DeskFits after → Next d (d .head .turn) after
-  keeps is-sound fits = by-test (mustWait d cell) refl is-sound fits
+  -- a read that waits changes the waiting read alone, and any other nothing
+  keeps : Keeps (after .head .n) (after .head .m) (after .head .own) (after .head .mode) (after .head .turn) after → Next d (d .head .turn) after
+  keeps = by-test (mustWait d cell) refl
     where
-      by-test : (t : Bool) → mustWait d cell ≡ t → sound after ≡ true → DeskFits after → Next d (d .head .turn) after
-      by-test true p s f =
-          record { desks = rw p; cells = rw p; own-number = rw p; mode-number = rw p; turn-number = rw p; is-sound = s; fits = f }
-      by-test false p s f =
-          record { desks = rw p; cells = rw p; own-number = rw p; mode-number = rw p; turn-number = rw p; is-sound = s; fits = f }
+      by-test : (t : Bool) → mustWait d cell ≡ t
+          → Keeps (after .head .n) (after .head .m) (after .head .own) (after .head .mode) (after .head .turn) after → Next d (d .head .turn) after
+      by-test true p = rw p (λ k. k)
+      by-test false p = rw p (λ k. k)
 
   pub read-by-rules : ByRules rules d [] (ReadStep d cell) (readOf d cell)
   unfolding readOf
@@ -151,8 +151,6 @@ module _ (d : Desk) (cell : ℕ) (fits : DeskFits d) where
         event = event;
         shows = shows;
         step = read-step silent;
-        keeps = keeps
-            (next (λ (x : Desk). sound x ≡ true) rules d after silent (read-sound d cell fits (read-allows d cell silent .is-sound)))
-            (next DeskFits rules d after silent (read-fits d cell fits));
+        keeps = keeps (next-keeps rules d after silent (read-sound d cell fits (read-allows d cell silent .is-sound)) (read-fits d cell fits));
         none-lent = refl;
       })

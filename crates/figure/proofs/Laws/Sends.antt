@@ -28,7 +28,7 @@ use Rattle.pending.specs.Pending.{entryIn, pendingBelow, pendingEntries, sheetO
 use Rattle.refusals.specs.Rules.{lastTurn}
 use Rattle.desk.specs.declared.Desk.{Desk}
 use Rattle.desk.specs.Answers.{sent}
-use Rattle.desk.specs.Calls.{sound, sendRules, sentDesk, sendOf}
+use Rattle.desk.specs.Calls.{sendRules, sentDesk, sendOf}
 use Rattle.desk.specs.Values.{DeskFits}
 use Rattle.desk.proofs.Laws.Allowed.{desk-says, send-allows}
 use Rattle.keeping.proofs.Laws.Send.{send-sound, send-fits}
@@ -36,7 +36,7 @@ use Rattle.keeping.proofs.Laws.Sheets.{sheet-read, sheet-entries}
 use Rattle.figure.specs.Figure1.{broadcasts, send}
 use Rattle.figure.specs.Map.{processOf, updatesOf, updatesIn, carried}
 use Rattle.figure.specs.Demand2.{ByRules, StepOf, SendStep}
-use Rattle.figure.proofs.Laws.ByRules.{by-call, next}
+use Rattle.figure.proofs.Laws.ByRules.{by-call, next-keeps}
 use Rattle.figure.proofs.Laws.Maps.{same-process}
 use Rattle.figure.proofs.Laws.Opens.{alike}
 
@@ -147,15 +147,7 @@ send-by-rules d buf fits =
       entries = count;
       answer = refl;
       step = sent-step d fits s own more;
-      keeps = record {
-        desks = refl;
-        cells = refl;
-        own-number = refl;
-        mode-number = refl;
-        turn-number = refl;
-        is-sound = next (λ (x : Desk). sound x ≡ true) rules d (sentDesk d) silent (send-sound d buf fits (allowed .is-sound));
-        fits = next DeskFits rules d (sentDesk d) silent (send-fits d buf fits);
-      };
+      keeps = next-keeps rules d (sentDesk d) silent (send-sound d buf fits (allowed .is-sound)) (send-fits d buf fits);
       sheet = bytes;
       buffer = refl;
       are-bytes = sheet-bytes (d .head) (d .pkind) (d .pday) (s .own-below) (s .desks-most) (s .cells-most) (s .pkind-is);

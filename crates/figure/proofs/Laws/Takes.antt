@@ -26,14 +26,14 @@ use Rattle.tray.proofs.Laws.Places.{holds-says, holds-not-free, cleared-free, c
 use Rattle.applying.specs.Applying.{goes, wentOf}
 use Rattle.desk.specs.declared.Desk.{Desk}
 use Rattle.desk.specs.Answers.{taken}
-use Rattle.desk.specs.Calls.{sound, nextHead, takeRules, entriesTaken, takenDesk, waitedFor, takeOf}
+use Rattle.desk.specs.Calls.{nextHead, takeRules, entriesTaken, takenDesk, waitedFor, takeOf}
 use Rattle.desk.specs.Values.{DeskFits}
 use Rattle.desk.proofs.Laws.Allowed.{desk-says, take-allows}
 use Rattle.keeping.proofs.Laws.Take.{take-sound, take-fits}
-use Rattle.figure.specs.Figure1.{Process, without, reads, finish, applies-updates, apply}
+use Rattle.figure.specs.Figure1.{Process, without, reads, finish, apply}
 use Rattle.figure.specs.Map.{processOf, updatesIn, updatesOf, received}
 use Rattle.figure.specs.Demand2.{ByRules, StepOf, ThenFinishes, nothing-to-finish, finishes, TakeSteps}
-use Rattle.figure.proofs.Laws.ByRules.{by-call, next}
+use Rattle.figure.proofs.Laws.ByRules.{by-call, next-keeps}
 use Rattle.figure.proofs.Laws.Loops.{entries-loop}
 use Rattle.figure.proofs.Laws.Maps.{same-process}
 
@@ -162,14 +162,6 @@ take-by-rules d tray fits are-bytes =
       between = between d es tray;
       step = apply (processOf d tray) q (updatesIn es) refl elsewhere there loop;
       then = then-finishes d es tray (clearedIn tray q) (given-up tray q (holds .room));
-      keeps = record {
-        desks = refl;
-        cells = refl;
-        own-number = refl;
-        mode-number = refl;
-        turn-number = refl;
-        is-sound = next (λ (x : Desk). sound x ≡ true) rules d (takenDesk d es) silent (take-sound d tray fits (allowed .is-sound));
-        fits = next DeskFits rules d (takenDesk d es) silent (take-fits d tray are-bytes fits);
-      };
+      keeps = next-keeps rules d (takenDesk d es) silent (take-sound d tray fits (allowed .is-sound)) (take-fits d tray are-bytes fits);
       place = refl;
     })

@@ -2,7 +2,6 @@
 -- Assumes nothing.
 use Prim.Native.Nat.{ℕ, _<_}
 use mathlib.Core.Path.{_≡_, refl, sym, ap, _∙_, subst}
-use mathlib.Core.Bool.{true}
 use mathlib.Core.List.{List, []}
 use mathlib.Core.Option.{none}
 use native.Mathlib.Omega.{arith}
@@ -15,14 +14,14 @@ use Rattle.content.proofs.Laws.Content.{content-again}
 use Rattle.cells.specs.Cells.{contentAt}
 use Rattle.desk.specs.declared.Desk.{Desk}
 use Rattle.desk.specs.Answers.{stored}
-use Rattle.desk.specs.Calls.{sound, writeRules, writtenDesk, writeOf}
+use Rattle.desk.specs.Calls.{writeRules, writtenDesk, writeOf}
 use Rattle.desk.specs.Values.{DeskFits}
 use Rattle.desk.proofs.Laws.Allowed.{desk-says, write-allows}
 use Rattle.keeping.proofs.Laws.Write.{write-sound, write-fits}
 use Rattle.figure.specs.Figure1.{assign, include, remove, writes, write}
 use Rattle.figure.specs.Map.{processOf, updatesOf}
 use Rattle.figure.specs.Demand2.{ByRules, StepOf, WriteStep}
-use Rattle.figure.proofs.Laws.ByRules.{by-call, next}
+use Rattle.figure.proofs.Laws.ByRules.{by-call, next-keeps}
 use Rattle.figure.proofs.Laws.Maps.{copy-put, updates-put, same-process}
 
 module _ (d : Desk) (cell : ℕ) (c : Content) (fits : DeskFits d) where
@@ -51,14 +50,6 @@ module _ (d : Desk) (cell : ℕ) (c : Content) (fits : DeskFits d) where
       record {
         answer = refl;
         step = written-step silent;
-        keeps = record {
-          desks = refl;
-          cells = refl;
-          own-number = refl;
-          mode-number = refl;
-          turn-number = refl;
-          is-sound = next (λ (x : Desk). sound x ≡ true) rules d (writtenDesk d cell c) silent (write-sound d cell c fits (write-allows d cell c silent .is-sound));
-          fits = next DeskFits rules d (writtenDesk d cell c) silent (write-fits d cell c small fits);
-        };
+        keeps = next-keeps rules d (writtenDesk d cell c) silent (write-sound d cell c fits (write-allows d cell c silent .is-sound)) (write-fits d cell c small fits);
         none-lent = refl;
       })
