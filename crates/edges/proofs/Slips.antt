@@ -1,54 +1,44 @@
--- Document 01's slips are ruled out (specs/Slips.antt): example 4 by computing the definitions, the rest because no rule of a call applies
--- where it is answered.
+-- Document 01's slips are ruled out (specs/Slips.antt): that of example 4 by computing the definitions, the others by the rules of a call,
+-- none of which applies where it is answered.
 -- Assumes nothing.
 use mathlib.Core.Path.{_≡_, refl, sym, ap, _∙_}
 use mathlib.Core.Bool.{Bool, true, false, cond, not, _&&_, _||_, false≢true}
-use mathlib.Core.List.{List, [], _∷_, _++_}
-use mathlib.Core.Option.{Option, none, some}
+use mathlib.Core.List.{List, [], _++_}
+use mathlib.Core.Option.{Option, some}
 use Prim.Native.Nat.{ℕ, zero, suc, _≤_, _<_}
 use native.Mathlib.Omega.{arith}
-use lib.IntN.{ℤ, pos}
-use lib.ListN.{length, drop, replicate}
+use lib.IntN.{ℤ}
+use lib.ListN.{length, drop}
 use borrow.Author.Tests.{eqb-true, eqb-false, ne-eqb, le-ltb, not-true}
 use Rattle.answer.specs.Answer.{answered}
 use Rattle.answer.specs.Promises.{Silent}
-use Rattle.answer.proofs.Laws.{refused-is-not-answered, answered-only-if, answered-if, changed-if}
+use Rattle.answer.proofs.Laws.{answered-only-if, answered-if, changed-if}
 use Rattle.content.specs.declared.Content.{Content}
-use Rattle.content.specs.declared.Content.the-variants.{Blank, Open, Day}
+use Rattle.content.specs.declared.Content.the-variants.{Open}
 use Rattle.layout.specs.declared.Entry.{Entry}
 use Rattle.layout.specs.Layout.{sheetBytes, trailerFor}
 use Rattle.laying.specs.Laying.{laidOver}
 use Rattle.sheet.specs.Good.{good}
 use Rattle.cells.specs.Cells.{placeAt, kindAt, contentAt, blank, filled, each, putIf, anywhere}
-use Rattle.sound.specs.Head.{sequential, causal, ownTurn, readWaits, waitCell}
+use Rattle.sound.specs.Head.{sequential, ownTurn, readWaits, waitCell}
 use Rattle.sound.specs.Sound.{soundOf}
 use Rattle.tray.specs.Tray.{holdsGood, heldIn, clearedIn}
 use Rattle.pending.specs.Pending.{pendingBelow, pendingEntries, numbersFor, sheetOf}
-use Rattle.applying.specs.Applying.{goes, laid, wentOf}
-use Rattle.applying.proofs.Laws.{went-within}
+use Rattle.applying.specs.Applying.{laid, wentOf}
 use Rattle.refusals.specs.Rules.{lastTurn}
 use Rattle.desk.specs.declared.Desk.{Desk}
 use Rattle.desk.specs.Answers.{Value, holds, waits, sent, taken}
 use Rattle.desk.specs.Calls.{sound, nextHead, readEnds, entriesTaken, takenDesk, waitedFor, sentDesk, readRules, sendRules, takeRules, mustWait, openOf, writeOf, readOf, sendOf, deliverOf, takeOf}
-use Rattle.desk.proofs.Laws.Allowed.{desk-says, send-allows, take-allows}
+use Rattle.desk.proofs.Laws.Allowed.{desk-says, send-allows}
 use Rattle.edges.specs.Examples.{openedDesk, writtenTo, sentInto, deliveredTo, takenFrom, takesNine}
-use Rattle.edges.specs.Slips.{shelfAfter, EmptySheetSent, ReadEnded, SlipsRuledOut}
+use Rattle.edges.specs.Slips.{FiveIsSent, EmptySheetSent, ReadEnded, SlipsRuledOut}
 
--- ---- example 4, by computing
-
-record Five : Type 0 where
-  is-sent : sentInto (takesNine 2 .desk) 18 .answer ≡ answered (sent 1 1)
-  in-sheet :
-      sentInto (takesNine 2 .desk) 18 .lent
-      ≡ 0x00 ∷ 0x02 ∷ 0x05 ∷ 0x00 ∷ 0x00 ∷ 0x00 ∷ 0x06 ∷ 0x00 ∷ 0x01 ∷ 0x01 ∷ 0x02 ∷ 0x02 ∷ 0x00 ∷ 0x00 ∷ 0x01 ∷ 0x00 ∷ 0x00 ∷ 0x00 ∷ []
-
-five : Five
+-- example 4, by computing
+five-is-sent : FiveIsSent
 unfolding openedDesk writtenTo sentInto deliveredTo takenFrom takesNine
     openOf writeOf mustWait readOf sendOf deliverOf takeOf
     soundOf placeAt each anywhere putIf sheetOf pendingBelow laid wentOf holdsGood heldIn clearedIn laidOver good
-five = record { is-sent = refl; in-sheet = refl }
-
--- ---- the five slips
+five-is-sent = record { answers = refl; sheet = refl }
 
 -- an empty sheet, where nothing is pending
 none-pending : (pkind : List ℕ) (pday : List ℤ) (n : ℕ) → anywhere n (filled pkind) ≡ false → pendingBelow pkind pday n ≡ []
@@ -62,8 +52,8 @@ none-pending pkind pday (suc n) e =
     neither true b q = absurd (false≢true (sym q))
     neither false b q = (refl, q)
 
-module _ (d : Desk) (buf : List ℕ) (s : sound d ≡ true) (own : ownTurn (d .head) ≡ true) (more : d .head .turn < lastTurn) (room : 12 ≤ length buf)
-    (nothing : anywhere 64 (filled (d .pkind)) ≡ false) where
+module _ (d : Desk) (buf : List ℕ) (s : sound d ≡ true) (own : ownTurn (d .head) ≡ true) (more : d .head .turn < lastTurn)
+    (room : 12 ≤ length buf) (nothing : anywhere 64 (filled (d .pkind)) ≡ false) where
   no-entries : pendingEntries (d .pkind) (d .pday) ≡ []
   no-entries = none-pending (d .pkind) (d .pday) 64 nothing
 
@@ -110,7 +100,8 @@ module _ (d : Desk) (i : ℕ) where
 
   pending-answers : filled (d .pkind) i ≡ true → mustWait d i ≡ false
   unfolding mustWait
-  pending-answers f = rw (not-true (blank (d .pkind) i) f) (shut (sequential (d .head) && anywhere 64 (filled (d .pkind))) (not (ownTurn (d .head))))
+  pending-answers f =
+      rw (not-true (blank (d .pkind) i) f) (shut (sequential (d .head) && anywhere 64 (filled (d .pkind))) (not (ownTurn (d .head))))
     where
       shut : (a b : Bool) → a && false && b ≡ false
       shut true b = refl
@@ -133,39 +124,29 @@ no-send-while-waiting d buf v w e =
     let allowed = send-allows d buf (answered-only-if (sendRules d buf) _ v e .0) in
     desk-says d (allowed .is-sound) .waits (eqb-false (d .head .wait) 0 (not-true _ w)) .elsewhere (eqb-true _ _ (allowed .own-turn))
 
-same-taken : (t t′ n n′ k k′ : ℕ) (w w′ : Option Content) → taken t n k w ≡ taken t′ n′ k′ w′
-    → (t′ ≡ t) × ((n′ ≡ n) × ((k′ ≡ k) × (w′ ≡ w)))
-same-taken t t′ n n′ k k′ w w′ e = ((cc), ((cc), ((cc), (cc))))
+-- what an answered take says
+same-waited-for : (t t′ n n′ k k′ : ℕ) (w w′ : Option Content) → taken t n k w ≡ taken t′ n′ k′ w′ → w′ ≡ w
+same-waited-for t t′ n n′ k k′ w w′ e = cc
 
-module _ (d : Desk) (tray : List ℕ) (t n k : ℕ) (w : Option Content) (e : takeOf d tray .answer ≡ answered (taken t n k w)) where
-  went : ℕ
-  went = wentOf (goes (causal (d .head)) (d .pkind)) (entriesTaken d tray)
-
-  taken-as-said : Silent (takeRules d tray) × (taken (d .head .turn) (length (entriesTaken d tray)) went (waitedFor (d .head) (takenDesk d (entriesTaken d tray))) ≡ taken t n k w)
-  unfolding takeOf went
-  taken-as-said = answered-only-if (takeRules d tray) _ (taken t n k w) e
-
-module _ (d : Desk) (tray : List ℕ) (t n k : ℕ) (w : Option Content) (waiting : readWaits (d .head) ≡ true) (own : ownTurn (nextHead (d .head) 0) ≡ true)
-    (e : takeOf d tray .answer ≡ answered (taken t n k w)) where
+module _ (d : Desk) (tray : List ℕ) (t n k : ℕ) (w : Option Content) (waiting : readWaits (d .head) ≡ true)
+    (own : ownTurn (nextHead (d .head) 0) ≡ true) (e : takeOf d tray .answer ≡ answered (taken t n k w)) where
   wait-ends-with-turn : ReadEnded d tray w
   unfolding takeOf
   wait-ends-with-turn =
-      let said = taken-as-said d tray t n k w e in
-      let same = same-taken _ t _ n _ k _ w (said .1) in
+      let said = answered-only-if (takeRules d tray) _ (taken t n k w) e in
       let next = takenDesk d (entriesTaken d tray) in
       let after = changed-if (takeRules d tray) d next (said .0) in
       let ends : readEnds (d .head) ≡ true = rw (waiting, own) in
       let given : waitedFor (d .head) next ≡ some (contentAt (next .kind) (next .day) (waitCell (d .head))) = rw ends in
       record {
-        answers = same .1 .1 .1 ∙ given ∙ ap (λ (x : Desk). some (contentAt (x .kind) (x .day) (waitCell (d .head)))) (sym after);
+        answers = same-waited-for _ t _ n _ k _ w (said .1) ∙ given ∙ ap (λ (x : Desk). some (contentAt (x .kind) (x .day) (waitCell (d .head)))) (sym after);
         over = ap (λ (x : Desk). readWaits (x .head)) after ∙ rw ends;
       }
 
 pub slips-ruled-out : SlipsRuledOut
 slips-ruled-out =
     record {
-      five-is-sent = five .is-sent;
-      five-in-sheet = five .in-sheet;
+      five-is-sent = five-is-sent;
       empty-sheet-sent = empty-sheet-sent;
       pending-cell-answers = pending-cell-answers;
       kind-1-is-open = kind-1-is-open;

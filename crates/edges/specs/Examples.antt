@@ -1,13 +1,16 @@
--- 01, "Examples at the edges": "(P) marks those for the proved table": one list of cases and one statement over it, proved in
+-- 01, "Examples at the edges": "(P) marks those for the proved table": one list of cases and one statement over it, `ExamplesHold`, proved in
 -- proofs/Examples.antt. Examples 1, 2, 4 and 5 are made by a desk's calls (crates/desk/specs/Calls.antt), one after the other from open
--- on; 6 by a send and a delivery, on records with the turn numbers that it names.
+-- on; 6 by a send and a delivery, on records with the turn numbers that it names. What 5 and 6 say of more than a case is `AlwaysAndOnly`,
+-- proved in proofs/AlwaysAndOnly.antt.
 -- Assumes nothing.
 use mathlib.Core.Path.{_≡_}
+use mathlib.Core.Logic.{_≢_}
+use mathlib.Core.Bool.{true}
 use mathlib.Core.List.{List, [], _∷_, map}
 use mathlib.Core.Option.{none}
-use Prim.Native.Nat.{ℕ, _*_}
+use Prim.Native.Nat.{ℕ, _*_, _<_}
 use lib.IntN.{ℤ, pos, negsuc}
-use lib.ListN.{drop, replicate}
+use lib.ListN.{length, drop, replicate}
 use Rattle.answer.specs.Answer.{Answer, refused, answered}
 use Rattle.content.specs.declared.Content.{Content}
 use Rattle.content.specs.declared.Content.the-variants.{Blank, Day}
@@ -15,11 +18,14 @@ use Rattle.content.specs.Standing.{Stands, unknown, left, standingOn}
 use Rattle.calendar.specs.declared.Date.{Date}
 use Rattle.calendar.specs.Calendar.{dayNumberOf}
 use Rattle.layout.specs.Layout.{entryFor, entryBytes, trailerIn}
+use Rattle.sheet.specs.Good.{good}
 use Rattle.cells.specs.Cells.{contentAt}
+use Rattle.sound.specs.Head.{ownTurn}
+use Rattle.tray.specs.Tray.{free}
 use Rattle.desk.specs.declared.Desk.{Desk}
 use Rattle.desk.specs.Answers.{Done, holds, waits, sent, held, taken}
 use Rattle.desk.specs.Answers as desk
-use Rattle.desk.specs.Calls.{openOf, writeOf, readOf, sendOf, deliverOf, takeOf, blankDesk}
+use Rattle.desk.specs.Calls.{sound, openOf, writeOf, readOf, sendOf, deliverOf, takeOf, blankDesk}
 
 -- what the examples speak of: bytes; a standing; a day; a call's answer, alone, with the buffer after it, or with what a cell then holds
 -- on the shelf and as a pending entry
@@ -89,7 +95,8 @@ dateOf2000 m d = record { year = 2000; month = m; day = d }
 
 unfoldable pub cases : List Case
 cases =
-    -- "Desk 0 of 2, 2 cells, sends day 0 in cell 1 at turn 0: `01 02 00 00 00 00 06 00 01 00 02 02 00 00 00 00 00 00`." (In the default mode.)
+    -- "Desk 0 of 2, 2 cells, sends day 0 in cell 1 at turn 0: `01 02 00 00 00 00 06 00 01 00 02 02 00 00 00 00 00 00`."
+    -- (In the default mode.)
     record {
       example = 1;
       made = sentBy (sentInto (writtenTo (openedDesk 2 2 0 0) 1 (Day (pos 0))) 18);
@@ -129,8 +136,36 @@ cases =
 abbrev pub ExamplesHold : Type 0
 ExamplesHold = map (λ (c : Case). c .made) cases ≡ map (λ (c : Case). c .says) cases
 
--- example 5's "always" and example 6's "only", which no list of cases can say: one desk's read never waits, whatever its record; and of all
--- bytes that are held from desk 0, the turn number is 6
+-- ---- what no list of cases can say: examples 5 and 6 speak of every such desk, and of every sheet
+
+-- example 6: a sound record of another desk than 0 with "n = 3, turn number 4", its tray, and a good sheet of its shelf "from desk 0"
+pub record FromDesk0 (d : Desk) (tray s : List ℕ) : Type 0 where
+  pub is-sound : sound d ≡ true
+  pub three-desks : d .head .n ≡ 3
+  pub turn-number : d .head .turn ≡ 4
+  pub not-desk-0 : d .head .own ≢ 0
+  pub tray-fits : length tray ≡ 398 * 3
+  pub is-good : good s ≡ true
+  pub same-desks : trailerIn s .desks ≡ 3
+  pub same-cells : trailerIn s .cells ≡ d .head .m
+  pub from-desk-0 : trailerIn s .sender ≡ 0
+
 pub record AlwaysAndOnly : Type 0 where
-  pub always : (d : Desk) (i : ℕ) → d .head .n ≡ 1 → readOf d i .answer ≡ answered waits → ⊥
-  pub only : (tray s : List ℕ) → trailerIn s .sender ≡ 0 → deliverOf (ofThree 1 4) tray s .answer ≡ answered held → trailerIn s .turn ≡ 6
+  -- example 5, "the turn is always its own": in every mode, whatever is pending
+  pub turn-is-own : (d : Desk) → sound d ≡ true → d .head .n ≡ 1 → ownTurn (d .head) ≡ true
+  -- "a read answers at once" what the cell holds; and no record with n = 1, sound or not, makes one wait
+  pub answers-at-once :
+      (d : Desk) (i : ℕ) → sound d ≡ true → d .head .n ≡ 1 → i < d .head .m
+      → readOf d i .answer ≡ answered (holds (contentAt (d .kind) (d .day) i))
+  pub never-waits : (d : Desk) (i : ℕ) → d .head .n ≡ 1 → readOf d i .answer ≡ answered waits → ⊥
+  -- example 6, "from desk 0 only number 6 may be delivered": of all bytes, with any tray, at any record with these two numbers; and 6 may,
+  -- where desk 0's place is free
+  pub only-6-is-held :
+      (d : Desk) (tray s : List ℕ) → d .head .n ≡ 3 → d .head .turn ≡ 4 → trailerIn s .sender ≡ 0
+      → deliverOf d tray s .answer ≡ answered held → trailerIn s .turn ≡ 6
+  pub number-6-is-held :
+      (d : Desk) (tray s : List ℕ) → FromDesk0 d tray s → trailerIn s .turn ≡ 6 → free tray 0 ≡ true
+      → deliverOf d tray s .answer ≡ answered held
+  -- "3 gets 16, 9 gets 17", and so does every number below 6, and every number above it
+  pub below-6-gets-16 : (d : Desk) (tray s : List ℕ) → FromDesk0 d tray s → trailerIn s .turn < 6 → deliverOf d tray s .answer ≡ refused 16
+  pub above-6-gets-17 : (d : Desk) (tray s : List ℕ) → FromDesk0 d tray s → 6 < trailerIn s .turn → deliverOf d tray s .answer ≡ refused 17

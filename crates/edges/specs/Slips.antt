@@ -1,7 +1,8 @@
--- 01, "Examples at the edges": "Slips to rule out: keeping one value per cell for shelf and pending, which sends 9 in example 4; sending no sheet when
--- nothing is pending, so the turn stops; making a strict read wait although its own cell is pending; treating kind 1 as a day of zero; letting
--- a waiting read answer after its desk's next send." That document 01's definitions do none of it, for any record; that a desk which does fails demand 2
--- is stated in crates/witness/specs/WrongDesks.antt. proofs/Slips.antt proves it.
+-- 01, "Examples at the edges": "Slips to rule out: keeping one value per cell for shelf and pending, which sends 9 in example 4; sending no
+-- sheet when nothing is pending, so the turn stops; making a strict read wait although its own cell is pending; treating kind 1 as a day of
+-- zero; letting a waiting read answer after its desk's next send." Document 01's definitions do none of it: the first is shown on example 4,
+-- the others are at no record. proofs/Slips.antt proves it. That demand 2 is false of a desk that does so is stated in
+-- crates/witness/specs/WrongDesks.antt.
 -- Assumes nothing.
 use mathlib.Core.Path.{_≡_}
 use mathlib.Core.Bool.{true, false}
@@ -22,6 +23,13 @@ use Rattle.desk.specs.Answers.{Value, Done, holds, waits, sent, taken}
 use Rattle.desk.specs.Calls.{sound, nextHead, readOf, sendOf, takeOf}
 use Rattle.edges.specs.Examples.{sentInto, takesNine}
 
+-- the causal desk of example 4 sends its pending 5 next, after it took 9
+pub record FiveIsSent : Type 0 where
+  pub answers : sentInto (takesNine 2 .desk) 18 .answer ≡ answered (sent 1 1)
+  pub sheet :
+      sentInto (takesNine 2 .desk) 18 .lent
+      ≡ 0x00 ∷ 0x02 ∷ 0x05 ∷ 0x00 ∷ 0x00 ∷ 0x00 ∷ 0x06 ∷ 0x00 ∷ 0x01 ∷ 0x01 ∷ 0x02 ∷ 0x02 ∷ 0x00 ∷ 0x00 ∷ 0x01 ∷ 0x00 ∷ 0x00 ∷ 0x00 ∷ []
+
 -- a send with nothing pending gives an empty sheet, and the turn goes on
 pub record EmptySheetSent (d : Desk) (buf : List ℕ) : Type 0 where
   pub answers : sendOf d buf .answer ≡ answered (sent (d .head .turn) 0)
@@ -38,11 +46,8 @@ pub record ReadEnded (d : Desk) (tray : List ℕ) (w : Option Content) : Type 0 
   pub over : readWaits (takeOf d tray .desk .head) ≡ false
 
 pub record SlipsRuledOut : Type 0 where
-  -- "keeping one value per cell for shelf and pending, which sends 9 in example 4": the causal desk of example 4 sends 5 next
-  pub five-is-sent : sentInto (takesNine 2 .desk) 18 .answer ≡ answered (sent 1 1)
-  pub five-in-sheet :
-      sentInto (takesNine 2 .desk) 18 .lent
-      ≡ 0x00 ∷ 0x02 ∷ 0x05 ∷ 0x00 ∷ 0x00 ∷ 0x00 ∷ 0x06 ∷ 0x00 ∷ 0x01 ∷ 0x01 ∷ 0x02 ∷ 0x02 ∷ 0x00 ∷ 0x00 ∷ 0x01 ∷ 0x00 ∷ 0x00 ∷ 0x00 ∷ []
+  -- "keeping one value per cell for shelf and pending, which sends 9 in example 4"
+  pub five-is-sent : FiveIsSent
   -- "sending no sheet when nothing is pending, so the turn stops"
   pub empty-sheet-sent :
       (d : Desk) (buf : List ℕ) → sound d ≡ true → ownTurn (d .head) ≡ true → d .head .turn < lastTurn → 12 ≤ length buf
