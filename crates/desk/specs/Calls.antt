@@ -65,9 +65,11 @@ abbrev pub freshHead : ℕ → ℕ → ℕ → ℕ → Head
 freshHead n m own mode = record { n = n; m = m; own = own; mode = mode; turn = 0; wait = 0 }
 
 -- "A refused open gives a record of zeros."
+abbrev pub zeroDesk : Desk
+zeroDesk = blankDesk (freshHead 0 0 0 0)
+
 unfoldable pub openOf : ℕ → ℕ → ℕ → ℕ → Done
-openOf n m own mode =
-    call (openRules n m own mode) (blankDesk (freshHead 0 0 0 0)) [] opened (blankDesk (freshHead n m own (modeFor mode))) []
+openOf n m own mode = call (openRules n m own mode) zeroDesk [] opened (blankDesk (freshHead n m own (modeFor mode))) []
 
 -- ---- Write
 

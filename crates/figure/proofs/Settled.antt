@@ -1,9 +1,9 @@
--- What demand 2 settles (specs/Settled.antt), proved: a call's rules say whether it is refused, a piece of Figure 1 has one end, a sound record is settled by
--- its process and numbers, and bytes by what they read as.
+-- What demand 2 settles (specs/Settled.antt), proved: a call's rules say whether it is refused, a piece of Figure 1 has one end, a sound
+-- record is settled by its process and the rest, and bytes by what they read as.
 --   demand-2-settles : Demand2Settles
 --   met-by-01-alone : MetBy01Alone
 -- Assumes nothing.
-use mathlib.Core.Path.{_≡_, refl, sym, ap, _∙_, fun-ext, subst}
+use mathlib.Core.Path.{_≡_, refl, sym, ap, _∙_, subst}
 use mathlib.Core.Bool.{not}
 use mathlib.Core.List.{List, [], _∷_, _++_}
 use mathlib.Core.Option.{Option, none, some, Option·some-ne-none}
@@ -11,7 +11,6 @@ use Prim.Native.Nat.{ℕ, _+_}
 use native.Mathlib.Omega.{arith}
 use lib.ListN.{length, take, drop, replicate, length-replicate}
 use lib.Seq.{take-at}
-use borrow.Author.Tests.{lt-leb}
 use Rattle.answer.specs.Answer.{Answer, answered, _if_}
 use Rattle.answer.proofs.Laws.{answered-only-if}
 use Rattle.content.specs.declared.Content.{Content}
@@ -22,14 +21,13 @@ use Rattle.sheet.specs.Good.{good}
 use Rattle.sheet.specs.Reading.{Sheet, sheetIn, readingOf}
 use Rattle.writer.specs.Promises.{ReadWritesBack}
 use Rattle.writer.proofs.RoundTrip.{read-writes-back}
-use Rattle.tray.specs.Tray.{placeStart, holdsGood}
 use Rattle.pending.specs.Pending.{numbersFor, pendingEntries}
 use Rattle.desk.specs.declared.Desk.{Desk}
 use Rattle.desk.specs.Answers.{Value, Done, holds, sent, taken}
-use Rattle.desk.specs.Calls.{Calls, document01, openRules, writeRules, readRules, sendRules, deliverRules, takeRules}
+use Rattle.desk.specs.Calls.{Calls, document01, zeroDesk, openRules, writeRules, readRules, sendRules, deliverRules, takeRules}
 use Rattle.figure.specs.Figure1.{Process, Event, reads}
-use Rattle.figure.specs.Map.{modelOf, processOf, received}
-use Rattle.figure.specs.Demand2.{ByRules, StepOf, zeros, Initialization, WriteStep, ReadShows, returns, begins-to-wait, ReadStep, SendStep, Arrival, ThenFinishes, nothing-to-finish, finishes, TakeSteps, Demand2}
+use Rattle.figure.specs.Map.{modelOf, processOf}
+use Rattle.figure.specs.Demand2.{ByRules, StepOf, Initialization, WriteStep, ReadShows, returns, begins-to-wait, ReadStep, SendStep, Arrival, ThenFinishes, nothing-to-finish, finishes, TakeSteps, Demand2}
 use Rattle.figure.specs.Settled.{SameCalls, Demand2Settles, MetBy01Alone}
 use Rattle.figure.proofs.Laws.ByRules.{settled}
 use Rattle.figure.proofs.Laws.OneEnd.{same-write, same-read, same-block, same-send, same-apply, no-read-blocks, returns-at-turn}
@@ -41,27 +39,21 @@ use Rattle.figure.proofs.Demand2.{demand-2}
 same-done : (done done′ : Done) {a : Answer Value} → done .answer ≡ a → done′ .answer ≡ a → done .desk ≡ done′ .desk → done .lent ≡ done′ .lent → done ≡ done′
 same-done done done′ one other desk lent = λ i. record { answer = (one ∙ sym other) i; desk = desk i; lent = lent i }
 
--- ---- a tray with nothing in it
-
-nothing-received : received [] ≡ (λ q. none)
-unfolding holdsGood
-nothing-received = fun-ext (λ q. rw (lt-leb (placeStart q + 398) 0 (omega arith)))
-
 -- ---- each call that is carried out, one way
 
 same-initialization : (n m own mode : ℕ) (done done′ : Done) → Initialization n m own mode done → Initialization n m own mode done′ → done ≡ done′
 same-initialization n m own mode done done′ one other =
-    let process = one .process [] nothing-received ∙ sym (other .process [] nothing-received) in
-    same-done done done′ (one .answer) (other .answer) (same-record (done .desk) (done′ .desk) [] (one .keeps) (other .keeps) process) (one .none-lent ∙ sym (other .none-lent))
+    let process = one .process ∙ sym (other .process) in
+    same-done done done′ (one .answer) (other .answer) (same-record (done .desk) (done′ .desk) [] (one .next) (other .next) process) (one .none-lent ∙ sym (other .none-lent))
 
 module _ (d : Desk) where
   same-write-step : (cell : ℕ) (c : Content) (done done′ : Done) → WriteStep d cell c done → WriteStep d cell c done′ → done ≡ done′
   same-write-step cell c done done′ one other =
       let process = same-write (d .head .n) (d .head .own) (modelOf (d .head .mode)) (processOf d []) (one .step []) (other .step []) in
-      same-done done done′ (one .answer) (other .answer) (same-record (done .desk) (done′ .desk) [] (one .keeps) (other .keeps) process) (one .none-lent ∙ sym (other .none-lent))
+      same-done done done′ (one .answer) (other .answer) (same-record (done .desk) (done′ .desk) [] (one .next) (other .next) process) (one .none-lent ∙ sym (other .none-lent))
 
   shown-same : {cell : ℕ} {v v′ : Value} {e e′ : Event Content} (s : Process Content) {t t′ : Process Content}
-      → ReadShows cell v e → ReadShows cell v′ e′ → StepOf d s e t → StepOf d s e′ t′ → (v ≡ v′) × (t ≡ t′)
+      → ReadShows cell e v → ReadShows cell e′ v′ → StepOf d s e t → StepOf d s e′ t′ → (v ≡ v′) × (t ≡ t′)
   shown-same s (returns c) (returns c′) one other =
       let same = same-read (d .head .n) (d .head .own) (modelOf (d .head .mode)) s one other in
       (ap holds (same .same-value), same .same-end)
@@ -73,7 +65,7 @@ module _ (d : Desk) where
   same-read-step cell done done′ one other =
       let same = shown-same (processOf d []) (one .shows) (other .shows) (one .step []) (other .step []) in
       same-done done done′ (one .answer ∙ ap answered (same .0)) (other .answer)
-      (same-record (done .desk) (done′ .desk) [] (one .keeps) (other .keeps) (same .1)) (one .none-lent ∙ sym (other .none-lent))
+      (same-record (done .desk) (done′ .desk) [] (one .next) (other .next) (same .1)) (one .none-lent ∙ sym (other .none-lent))
 
 -- ---- bytes, by what they read as
 
@@ -108,7 +100,7 @@ module _ (d : Desk) where
       let says = one .reads-back ∙ ap (λ (k : ℕ). answered (record { numbers = numbersFor (d .head) k; entries = pendingEntries (d .pkind) (d .pday) })) count in
       let bytes = same-bytes (one .sheet) (other .sheet) _ (one .are-bytes) (other .are-bytes) says (other .reads-back) in
       same-done done done′ (one .answer ∙ ap (λ (k : ℕ). answered (sent (d .head .turn) k)) count) (other .answer)
-      (same-record (done .desk) (done′ .desk) [] (one .keeps) (other .keeps) process)
+      (same-record (done .desk) (done′ .desk) [] (one .next) (other .next) process)
       (one .buffer ∙ ap (λ (s : List ℕ). s ++ drop (length s) buf) bytes ∙ sym (other .buffer))
 
   same-arrival : (tray s : List ℕ) (done done′ : Done) → Arrival d tray s done → Arrival d tray s done′ → done ≡ done′
@@ -146,7 +138,7 @@ module _ (d : Desk) where
       same-done done done′
       (one .answer ∙ λ i. answered (taken (d .head .turn) (applied .same-extracted i) (applied .same-assigned i) (finished .0 i)))
       (other .answer)
-      (same-record (done .desk) (done′ .desk) (done .lent) (one .keeps) (other .keeps) process) lent
+      (same-record (done .desk) (done′ .desk) (done .lent) (one .next) (other .next) process) lent
 
 -- ---- every call
 
@@ -154,7 +146,7 @@ pub demand-2-settles : Demand2Settles
 demand-2-settles calls calls′ one other =
     record {
       opening = λ n m own mode.
-          settled (openRules n m own mode) zeros [] (Initialization n m own mode) _ _ (one .opening n m own mode) (other .opening n m own mode)
+          settled (openRules n m own mode) zeroDesk [] (Initialization n m own mode) _ _ (one .opening n m own mode) (other .opening n m own mode)
           (λ silent. same-initialization n m own mode _ _);
       write = λ d cell c fits small.
           settled (writeRules d cell c) d [] (WriteStep d cell c) _ _ (one .write d cell c fits small) (other .write d cell c fits small)
@@ -163,8 +155,8 @@ demand-2-settles calls calls′ one other =
           settled (readRules d cell) d [] (ReadStep d cell) _ _ (one .read d cell fits) (other .read d cell fits) (λ silent. same-read-step d cell _ _);
       send = λ d buf fits.
           settled (sendRules d buf) d buf (SendStep d buf) _ _ (one .send d buf fits) (other .send d buf fits) (λ silent. same-send-step d buf _ _);
-      deliver = λ d tray s fits.
-          settled (deliverRules d tray s) d tray (Arrival d tray s) _ _ (one .deliver d tray s fits) (other .deliver d tray s fits)
+      deliver = λ d tray s.
+          settled (deliverRules d tray s) d tray (Arrival d tray s) _ _ (one .deliver d tray s) (other .deliver d tray s)
           (λ silent. same-arrival d tray s _ _);
       take = λ d tray fits are.
           settled (takeRules d tray) d tray (TakeSteps d tray) _ _ (one .take d tray fits are) (other .take d tray fits are)
@@ -176,13 +168,13 @@ met-by-same : (calls : Calls) → SameCalls calls document01 → Demand2 calls
 met-by-same calls same =
     record {
       opening = λ n m own mode.
-          subst (ByRules (openRules n m own mode) zeros [] (Initialization n m own mode)) (sym (same .opening n m own mode)) (demand-2 .opening n m own mode);
+          subst (ByRules (openRules n m own mode) zeroDesk [] (Initialization n m own mode)) (sym (same .opening n m own mode)) (demand-2 .opening n m own mode);
       write = λ d cell c fits small.
           subst (ByRules (writeRules d cell c) d [] (WriteStep d cell c)) (sym (same .write d cell c fits small)) (demand-2 .write d cell c fits small);
       read = λ d cell fits. subst (ByRules (readRules d cell) d [] (ReadStep d cell)) (sym (same .read d cell fits)) (demand-2 .read d cell fits);
       send = λ d buf fits. subst (ByRules (sendRules d buf) d buf (SendStep d buf)) (sym (same .send d buf fits)) (demand-2 .send d buf fits);
-      deliver = λ d tray s fits.
-          subst (ByRules (deliverRules d tray s) d tray (Arrival d tray s)) (sym (same .deliver d tray s fits)) (demand-2 .deliver d tray s fits);
+      deliver = λ d tray s.
+          subst (ByRules (deliverRules d tray s) d tray (Arrival d tray s)) (sym (same .deliver d tray s)) (demand-2 .deliver d tray s);
       take = λ d tray fits are.
           subst (ByRules (takeRules d tray) d tray (TakeSteps d tray)) (sym (same .take d tray fits are)) (demand-2 .take d tray fits are);
       written-reads-back = demand-2 .written-reads-back;

@@ -62,15 +62,8 @@ without q buffer r = cond (eqb r q) none (buffer r)
 abbrev pub nextTurn : ℕ → ℕ → ℕ
 nextTurn n turn = (turn + 1) % n
 
--- the algorithm of process p of n, for a model
-module _ {A : Type 0} (n p : ℕ) (model : Model) where
-  -- "if (model = sequential) and (updates_p ≠ ∅) and ((x, ·) ∉ updates_p) then wait until turn_p = p"
-  pub record Waits (s : Process A) (x : ℕ) : Type 0 where
-    pub is-sequential : model ≡ sequential
-    pub some-updates : s .updates ≢ ∅
-    pub none-of-x : s .updates x ≡ none
-    pub elsewhere : s .turn ≢ p
-
+-- the loop of apply_updates(), for a model
+module _ {A : Type 0} (model : Model) where
   -- "if (model = causal) or ((x, ·) ∉ updates_p) then"
   abbrev pub Assigned : Updates A → ℕ → Type 0
   Assigned own x = (model ≡ causal) ⊎ (own x ≡ none)
@@ -84,12 +77,22 @@ module _ {A : Type 0} (n p : ℕ) (model : Model) where
     passes : {u : Updates A} {c c′ : ℕ → A} {k j : ℕ} (x : ℕ) (v : A) → u x ≡ some v → (Assigned own x → ⊥)
         → Loop own (remove x u) c k j c′ → Loop own u c (suc k) j c′
 
-  -- the pieces, each atomic. A process that is blocked in a read issues no other operation meanwhile: it writes and reads only where no read of
-  -- its own is blocked (01: 8, "a read waits at this desk")
+-- the algorithm of process p of n, for a model
+module _ {A : Type 0} (n p : ℕ) (model : Model) where
+  -- "if (model = sequential) and (updates_p ≠ ∅) and ((x, ·) ∉ updates_p) then wait until turn_p = p"
+  pub record Waits (s : Process A) (x : ℕ) : Type 0 where
+    pub is-sequential : model ≡ sequential
+    pub some-updates : s .updates ≢ ∅
+    pub none-of-x : s .updates x ≡ none
+    pub elsewhere : s .turn ≢ p
+
+  -- the pieces, each atomic. A process that is blocked in a read issues no other operation meanwhile: it writes and reads only where no
+  -- read of its own is blocked (01: 8, "a read waits at this desk")
   pub data Step : Process A → Event A → Process A → Type 0 where
     -- "w_p(x)v": "x_p ← v; if ((x, ·) ∈ updates_p) then remove (x, ·) from updates_p; include (x, v) in updates_p"
     write : (s : Process A) (x : ℕ) (v : A) → s .blocked ≡ none
-        → Step s (writes x v) (record { copy = assign x v (s .copy); updates = include x v (remove x (s .updates)); turn = s .turn; blocked = none; buffer = s .buffer })
+        → Step s (writes x v)
+        (record { copy = assign x v (s .copy); updates = include x v (remove x (s .updates)); turn = s .turn; blocked = none; buffer = s .buffer })
     -- "r_p(x)": it need not wait, "return(x_p)"
     read : (s : Process A) (x : ℕ) → s .blocked ≡ none → (Waits s x → ⊥) → Step s (reads x (s .copy x)) s
     -- or it waits, and "other tasks are free to access the algorithm variables"
@@ -98,13 +101,14 @@ module _ {A : Type 0} (n p : ℕ) (model : Model) where
     -- "until turn_p = p": then "return(x_p)"
     finish : (s : Process A) (x : ℕ) → s .blocked ≡ some x → s .turn ≡ p
         → Step s (reads x (s .copy x)) (record { copy = s .copy; updates = s .updates; turn = s .turn; blocked = none; buffer = s .buffer })
-    -- "send_updates() :: atomic task activated whenever turn_p = p", which sends "to all processes, except itself"; "when turn_p = p, a blocked read
-    -- operation finishes before send_updates() is executed"
+    -- "send_updates() :: atomic task activated whenever turn_p = p"; "when turn_p = p, a blocked read operation finishes before
+    -- send_updates() is executed". (To whom the set goes, "to all processes, except itself", is the line's part, and 01's 15)
     send : (s : Process A) → s .turn ≡ p → s .blocked ≡ none
-        → Step s (broadcasts (s .updates)) (record { copy = s .copy; updates = ∅; turn = nextTurn n (s .turn); blocked = none; buffer = s .buffer })
-    -- "apply_updates() :: atomic task activated whenever turn_p = q, p ≠ q, and the set updates_q from process q is in the receiving buffer of
-    -- process p"
+        → Step s (broadcasts (s .updates))
+        (record { copy = s .copy; updates = ∅; turn = nextTurn n (s .turn); blocked = none; buffer = s .buffer })
+    -- "apply_updates() :: atomic task activated whenever turn_p = q, p ≠ q, and the set updates_q from process q is in the receiving
+    -- buffer of process p"
     apply : (s : Process A) (q : ℕ) (updates : Updates A) {k j : ℕ} {after : ℕ → A} → s .turn ≡ q → p ≢ q → s .buffer q ≡ some updates
-        → Loop (s .updates) updates (s .copy) k j after
+        → Loop model (s .updates) updates (s .copy) k j after
         → Step s (applies-updates q updates k j)
         (record { copy = after; updates = s .updates; turn = nextTurn n (s .turn); blocked = s .blocked; buffer = without q (s .buffer) })

@@ -29,7 +29,7 @@ use Rattle.keeping.proofs.Laws.Write.{write-fits}
 use Rattle.figure.specs.Demand2.{Demand2}
 use Rattle.figure.specs.Settled.{SameCalls}
 use Rattle.figure.proofs.Settled.{met-by-01-alone}
-use Rattle.witness.specs.WrongRuns.{takeEndingNoRead, sendEndingRead, readEndsAtSend}
+use Rattle.witness.specs.WrongRuns.{takeEndingNoRead, sendEndingRead, readEndsLate}
 use Rattle.witness.specs.WrongDesks.{refusesEverything, answersBlank, keepsItsRecord, firstTakeTrue, inventsCounts, WrongDesksShutOut, oneValuePerCell, sendsNoEmptySheet, ownCellWaits, kind1IsDay0, SlipsShutOut}
 use Rattle.witness.proofs.Laws.Tested.{computing}
 
@@ -142,7 +142,7 @@ waiting-fits = read-fits asking 1 asking-fits
 
 -- of an input: what the wrong calls make of it, and what document 01's do
 record Made : Type 0 where
-  refuses : (by-answer (refusesEverything .opening 1 1 0 0) ≡ 0) × (by-answer (document01 .opening 1 1 0 0) ≡ 1)
+  refuses : (by-answer (refusesEverything .write (at 1 1 0) 0 Open) ≡ 0) × (by-answer (document01 .write (at 1 1 0) 0 Open) ≡ 2)
   blank : (by-answer (answersBlank .read asking 0) ≡ 3) × (by-answer (document01 .read asking 0) ≡ 4)
   keeps : (turn-after (keepsItsRecord .send (at 0 1 0) (replicate 12 0)) ≡ 0) × (turn-after (document01 .send (at 0 1 0) (replicate 12 0)) ≡ 1)
   moves : (kind-after (firstTakeTrue .take (at 1 2 2) open-in-0) ≡ 0) × (kind-after (document01 .take (at 1 2 2) open-in-0) ≡ 1)
@@ -172,7 +172,9 @@ as-01 calls = met-by-01-alone calls .0
 pub wrong-desks-shut-out : WrongDesksShutOut
 wrong-desks-shut-out =
     record {
-      refuses-everything = λ demand. apart by-answer _ _ 0 1 (made .refuses .0) (made .refuses .1) (λ e. omega arith) (as-01 _ demand .opening 1 1 0 0);
+      refuses-everything = λ demand.
+          apart by-answer _ _ 0 2 (made .refuses .0) (made .refuses .1) (λ e. omega arith)
+          (as-01 _ demand .write (at 1 1 0) 0 Open (at-fits 1 1 0 (omega arith)) (record { sfits = omega arith }));
       answers-blank = λ demand. apart by-answer _ _ 3 4 (made .blank .0) (made .blank .1) (λ e. omega arith) (as-01 _ demand .read asking 0 asking-fits);
       keeps-its-record = λ demand.
           apart turn-after _ _ 0 1 (made .keeps .0) (made .keeps .1) (λ e. omega arith)
@@ -191,12 +193,12 @@ record Slipped : Type 0 where
   one-value : (pending-after (oneValuePerCell .take causal-asking day-in-0) ≡ 2) × (pending-after (document01 .take causal-asking day-in-0) ≡ 1)
   no-sheet : (turn-after (sendsNoEmptySheet .send (at 0 1 0) (replicate 12 0)) ≡ 0) × (turn-after (document01 .send (at 0 1 0) (replicate 12 0)) ≡ 1)
   own-cell : (by-answer (ownCellWaits .read asking 0) ≡ 6) × (by-answer (document01 .read asking 0) ≡ 4)
-  kind-1 : (by-answer (kind1IsDay0 .read asking 0) ≡ 5) × (by-answer (document01 .read asking 0) ≡ 4)
-  late : (by-answer (readEndsAtSend .take waiting open-in-both) ≡ 9) × (by-answer (document01 .take waiting open-in-both) ≡ 11)
+  kind-1 : (kind-after (kind1IsDay0 .take (at 1 1 0) open-in-both) ≡ 2) × (kind-after (document01 .take (at 1 1 0) open-in-both) ≡ 1)
+  late : (by-answer (readEndsLate .take waiting open-in-both) ≡ 9) × (by-answer (document01 .take waiting open-in-both) ≡ 11)
   bytes : all-bytes day-in-0 ≡ true
 
 slipped : Slipped
-unfolding computing by-answer shown turn-after pending-after at opens tray-with all-bytes open-in-both asking waiting causal-asking day-in-0
+unfolding computing by-answer shown turn-after kind-after pending-after at opens tray-with all-bytes open-in-both asking waiting causal-asking day-in-0
     oneValuePerCell sendsNoEmptySheet ownCellWaits kind1IsDay0 takeEndingNoRead sendEndingRead
 slipped = record { one-value = (refl, refl); no-sheet = (refl, refl); own-cell = (refl, refl); kind-1 = (refl, refl); late = (refl, refl); bytes = refl }
 
@@ -212,8 +214,9 @@ slips-shut-out =
       own-cell-waits = λ demand.
           apart by-answer _ _ 6 4 (slipped .own-cell .0) (slipped .own-cell .1) (λ e. omega arith) (as-01 _ demand .read asking 0 asking-fits);
       kind-1-is-day-0 = λ demand.
-          apart by-answer _ _ 5 4 (slipped .kind-1 .0) (slipped .kind-1 .1) (λ e. omega arith) (as-01 _ demand .read asking 0 asking-fits);
-      read-ends-at-send = λ demand.
+          apart kind-after _ _ 2 1 (slipped .kind-1 .0) (slipped .kind-1 .1) (λ e. omega arith)
+          (as-01 _ demand .take (at 1 1 0) open-in-both (at-fits 1 1 0 (omega arith)) (are-bytes-if open-in-both (made .bytes-both)));
+      read-ends-late = λ demand.
           apart by-answer _ _ 9 11 (slipped .late .0) (slipped .late .1) (λ e. omega arith)
           (as-01 _ demand .take waiting open-in-both waiting-fits (are-bytes-if open-in-both (made .bytes-both)));
     }

@@ -14,7 +14,7 @@ use Rattle.runs.specs.Call.{Call, reads, sends, delivers, takes, sheetRoom}
 use Rattle.runs.specs.Run.{State, start, made, after, reached}
 use Rattle.runs.specs.TurnRules.{turnOf, OneTurn, OneSheet, Never, GoesOn, WaitEnds, Untaken, CanSend, CanTake, takesBy}
 use Rattle.witness.specs.RunsPlayed.{twoDesks, threeDesks, threeSheets}
-use Rattle.witness.specs.WrongRuns.{Bites, sendKeepingTurn, sendKeepsTurn, sentAndTaken, sentTwice, deliverRefusingEarly, refuses17Early, takeLeavingSheet, takeLeavesSheet, roundAndOn, takeEndingNoRead, sendEndingRead, readEndsAtSend, oneWritten, EachPartBites}
+use Rattle.witness.specs.WrongRuns.{Bites, sendKeepingTurn, sendKeepsTurn, sentAndTaken, sentTwice, deliverRefusingEarly, refuses17Early, takeLeavingSheet, takeLeavesSheet, roundAndOn, takeEndingNoRead, sendEndingRead, readEndsLate, oneWritten, EachPartBites}
 use Rattle.witness.proofs.Laws.Tested.{computing, below-two, below-three, is-possible, is-run, no-take, no-answer}
 use Rattle.witness.proofs.RunsPlayed.{on-two, on-three}
 
@@ -81,19 +81,19 @@ goes-on =
     neither p h (inl can) = refused-is-not-answered 9 _ (sym (no-send p h) ∙ can sheetRoom (omega arith) .1)
     neither p h (inr can) = refused-is-not-answered 21 _ (sym (no-next p h (can .k) (can .sent)) ∙ can .taken-then)
 
-wait-ends : Bites WaitEnds readEndsAtSend twoDesks oneWritten
+wait-ends : Bites WaitEnds readEndsLate twoDesks oneWritten
 unfolding computing sheetRoom sendEndingRead takeEndingNoRead oneWritten
 wait-ends =
     record {
-      run = on-two readEndsAtSend oneWritten refl;
+      run = on-two readEndsLate oneWritten refl;
       is-false =
           λ part.
-          let said = part 1 1 (omega arith) refl onwards (is-run readEndsAtSend 2 s onwards refl) (leb-true 1 (takesBy readEndsAtSend 1 s onwards) refl) in
-          no-answer readEndsAtSend 1 1 s onwards refl said;
+          let said = part 1 1 (omega arith) refl onwards (is-run readEndsLate 2 s onwards refl) (leb-true 1 (takesBy readEndsLate 1 s onwards) refl) in
+          no-answer readEndsLate 1 1 s onwards refl said;
     }
   where
     s : State
-    s = after readEndsAtSend (reached readEndsAtSend twoDesks oneWritten) (reads 1 1)
+    s = after readEndsLate (reached readEndsLate twoDesks oneWritten) (reads 1 1)
 
     -- desk 1's accepted take number 1, and its next send
     onwards : List Call

@@ -1,9 +1,10 @@
 -- What wrong calls are made of: document 01's calls with some of them changed, and an outcome of a call with a part of it changed.
 -- Assumes nothing.
-use mathlib.Core.Option.{none, some}
+use mathlib.Core.Bool.{cond}
+use mathlib.Core.Option.{Option, none, some}
 use mathlib.Core.List.{List}
 use Prim.Native.Nat.{ℕ}
-use Rattle.answer.specs.Answer.{Answer, refused, answered}
+use Rattle.answer.specs.Answer.{Answer, refused, answered, accepted}
 use Rattle.content.specs.declared.Content.{Content}
 use Rattle.desk.specs.declared.Desk.{Desk}
 use Rattle.desk.specs.Answers.{Value, opened, stored, holds, waits, sent, held, taken, Done}
@@ -22,8 +23,10 @@ callsWith write read send deliver take = record { opening = openOf; write = writ
 abbrev pub withAnswer : (Answer Value → Answer Value) → Done → Done
 withAnswer change done = record { answer = change (done .answer); desk = done .desk; lent = done .lent }
 
+-- with another record, where the call was carried out: a refused one changes nothing
 abbrev pub withDesk : (Desk → Desk) → Done → Done
-withDesk change done = record { answer = done .answer; desk = change (done .desk); lent = done .lent }
+withDesk change done =
+    record { answer = done .answer; desk = cond (accepted (done .answer)) (change (done .desk)) (done .desk); lent = done .lent }
 
 abbrev pub withLent : List ℕ → Done → Done
 withLent lent done = record { answer = done .answer; desk = done .desk; lent = lent }
@@ -45,21 +48,33 @@ withWait wait d =
 
 -- ---- an answer
 
--- its contents changed, that of a read that waited too; and its applied count, from the number of entries and the count
-abbrev pub showing : (Content → Content) → (ℕ → ℕ → ℕ) → Value → Value
-showing show count opened = opened
-showing show count stored = stored
-showing show count (holds c) = holds (show c)
-showing show count waits = waits
-showing show count (sent turn entries) = sent turn entries
-showing show count held = held
-showing show count (taken turn entries applied none) = taken turn entries (count entries applied) none
-showing show count (taken turn entries applied (some c)) = taken turn entries (count entries applied) (some (show c))
+-- the content of a read changed; the applied count of a take, from its entries and that count; and the content that it carries, if any
+pub record Change : Type 0 where
+  pub content : Content → Content
+  pub applied : (entries applied : ℕ) → ℕ
+  pub waited : Option Content → Option Content
 
-abbrev pub answering : (Content → Content) → (ℕ → ℕ → ℕ) → Answer Value → Answer Value
-answering show count (refused k) = refused k
-answering show count (answered v) = answered (showing show count v)
+abbrev pub showing : Change → Value → Value
+showing x opened = opened
+showing x stored = stored
+showing x (holds c) = holds (x .content c)
+showing x waits = waits
+showing x (sent turn entries) = sent turn entries
+showing x held = held
+showing x (taken turn entries applied waited) = taken turn entries (x .applied entries applied) (x .waited waited)
 
--- every content changed, and no count
+abbrev pub answering : Change → Answer Value → Answer Value
+answering x (refused k) = refused k
+answering x (answered v) = answered (showing x v)
+
+-- every content changed, that of a read that waited too
+abbrev pub inOption : (Content → Content) → Option Content → Option Content
+inOption show none = none
+inOption show (some c) = some (show c)
+
 abbrev pub contents : (Content → Content) → Answer Value → Answer Value
-contents show = answering show (λ entries applied. applied)
+contents show = answering (record { content = show; applied = λ entries applied. applied; waited = inOption show })
+
+-- what a take carries, and nothing else
+abbrev pub carrying : Option Content → Answer Value → Answer Value
+carrying waited = answering (record { content = λ c. c; applied = λ entries applied. applied; waited = λ before. waited })

@@ -1,28 +1,26 @@
--- 01, "What the contracts have to say": "Test these: a desk that refuses everything, one that answers blank always, one that keeps its record
--- unchanged, one that does its first take truly and afterwards only moves the turn, one that reports invented applied counts. Demand 2 shuts out all
--- five, even those that demand 3's turn rules would let pass". And "Examples at the edges", "Slips to rule out".
--- Each is made here as calls, and demand 2 (crates/figure/specs/Demand2.antt) is false of them. What a wrong desk does not change is as 01 says.
--- proofs/WrongDesks.antt proves it.
+-- 01, "What the contracts have to say": "Test these: a desk that refuses everything, one that answers blank always, one that keeps its
+-- record unchanged, one that does its first take truly and afterwards only moves the turn, one that reports invented applied counts. Demand
+-- 2 shuts out all five". And "Examples at the edges", "Slips to rule out".
+-- Each is made here as calls, and demand 2 (crates/figure/specs/Demand2.antt) is false of them. What the sentence does not name is as 01
+-- says: a call that 01 refuses is refused so, and changes nothing. proofs/WrongDesks.antt proves it.
 -- Assumes nothing.
 use mathlib.Core.Bool.{Bool, cond, not, _&&_}
 use mathlib.Core.List.{List, []}
 use Prim.Native.Nat.{ℕ}
 use lib.Dec.{eqb}
-use lib.IntN.{pos}
 use Rattle.answer.specs.Answer.{refused}
-use Rattle.content.specs.declared.Content.{Content}
-use Rattle.content.specs.declared.Content.the-variants.{Blank, Open, Day}
+use Rattle.content.specs.declared.Content.the-variants.{Blank}
 use Rattle.cells.specs.Cells.{filled, anywhere}
 use Rattle.layout.specs.declared.Entry.{Entry}
 use Rattle.sound.specs.declared.Head.{Head}
-use Rattle.sound.specs.Head.{sequential, causal, ownTurn}
+use Rattle.sound.specs.Head.{sequential, causal, ownTurn, waitCell}
 use Rattle.applying.specs.Applying.{goes, laid, kindOn, dayOn}
 use Rattle.desk.specs.declared.Desk.{Desk}
 use Rattle.desk.specs.Answers.{holds, waits, Done, call}
 use Rattle.desk.specs.Calls.{Calls, shownAt, writeOf, readRules, waitingDesk, readOf, sendOf, deliverOf, entriesTaken, takeOf}
-use Rattle.figure.specs.Demand2.{Demand2, zeros}
+use Rattle.figure.specs.Demand2.{Demand2}
 use Rattle.witness.specs.Changed.{callsWith, withAnswer, withDesk, withLent, withShelfOf, withPendingOf, answering, contents}
-use Rattle.witness.specs.WrongRuns.{readEndsAtSend}
+use Rattle.witness.specs.WrongRuns.{readEndsLate}
 
 -- these calls do not meet demand 2
 abbrev pub ShutOut : Calls → Type 0
@@ -30,20 +28,13 @@ ShutOut calls = Demand2 calls → ⊥
 
 -- ---- "a desk that refuses everything"
 
--- with the first number that the call has
-abbrev pub refusal : ℕ → Desk → List ℕ → Done
-refusal k d lent = record { answer = refused k; desk = d; lent = lent }
+-- once it is open, with the first number that the call has
+abbrev pub refusal : Desk → List ℕ → Done
+refusal d lent = record { answer = refused 5; desk = d; lent = lent }
 
 unfoldable pub refusesEverything : Calls
 refusesEverything =
-    record {
-      opening = λ n m own mode. refusal 1 zeros [];
-      write = λ d cell c. refusal 5 d [];
-      read = λ d cell. refusal 5 d [];
-      send = λ d buf. refusal 5 d buf;
-      deliver = λ d tray s. refusal 5 d tray;
-      take = λ d tray. refusal 5 d tray;
-    }
+    callsWith (λ d cell c. refusal d []) (λ d cell. refusal d []) (λ d buf. refusal d buf) (λ d tray s. refusal d tray) (λ d tray. refusal d tray)
 
 -- ---- "one that answers blank always"
 
@@ -67,18 +58,20 @@ keepsItsRecord =
 abbrev pub isFirstTake : Head → Bool
 isFirstTake h = eqb (h .turn) (cond (eqb (h .own) 0) 1 0)
 
--- afterwards the shelf is as it was; answer, turn number, waiting read and place are as 01 says
+-- afterwards the shelf is as it was, and a read that waited is answered from it; turn number and place are as 01 says
+abbrev pub turnMoved : Desk → List ℕ → Done
+turnMoved d tray = withAnswer (contents (λ c. shownAt d (waitCell (d .head)))) (withDesk (withShelfOf d) (takeOf d tray))
+
 unfoldable pub firstTakeTrue : Calls
-firstTakeTrue =
-    callsWith writeOf readOf sendOf deliverOf
-    (λ d tray. cond (isFirstTake (d .head)) (takeOf d tray) (withDesk (withShelfOf d) (takeOf d tray)))
+firstTakeTrue = callsWith writeOf readOf sendOf deliverOf (λ d tray. cond (isFirstTake (d .head)) (takeOf d tray) (turnMoved d tray))
 
 -- ---- "one that reports invented applied counts"
 
 -- every entry of the sheet is said to have gone to the shelf
 unfoldable pub inventsCounts : Calls
 inventsCounts =
-    callsWith writeOf readOf sendOf deliverOf (λ d tray. withAnswer (answering (λ c. c) (λ entries applied. entries)) (takeOf d tray))
+    callsWith writeOf readOf sendOf deliverOf
+    (λ d tray. withAnswer (answering (record { content = λ c. c; applied = λ entries applied. entries; waited = λ c. c })) (takeOf d tray))
 
 -- ---- the five
 
@@ -111,6 +104,7 @@ oneValuePerCell =
 
 -- ---- "sending no sheet when nothing is pending, so the turn stops"
 
+-- it answers as if it had sent
 unfoldable pub sendsNoEmptySheet : Calls
 sendsNoEmptySheet =
     callsWith writeOf readOf
@@ -119,7 +113,8 @@ sendsNoEmptySheet =
 
 -- ---- "making a strict read wait although its own cell is pending"
 
--- "the mode is sequential, something is pending, .. and the turn is elsewhere", without "this cell is not"
+-- "the mode is sequential, something is pending, .. and the turn is elsewhere", without "this cell is not". (The record is then not sound, since "a
+-- waiting read has .. a cell .. that is not pending", and every further call gets 5)
 abbrev pub mustWaitTooOften : Desk → Bool
 mustWaitTooOften d = sequential (d .head) && anywhere 64 (filled (d .pkind)) && not (ownTurn (d .head))
 
@@ -135,15 +130,14 @@ ownCellWaits =
 
 -- ---- "treating kind 1 as a day of zero"
 
-abbrev pub openIsDay0 : Content → Content
-openIsDay0 Blank = Blank
-openIsDay0 Open = Day (pos 0)
-openIsDay0 (Day d) = Day d
+-- every entry of a sheet is taken for a day, and open has the day 0 there
+abbrev pub shelfOfDays : Desk → List Entry → Desk
+shelfOfDays d es =
+    let going = goes (causal (d .head)) (d .pkind) in
+    record { head = d .head; kind = laid going (λ e. 2) (d .kind) es; day = laid going dayOn (d .day) es; pkind = d .pkind; pday = d .pday }
 
 unfoldable pub kind1IsDay0 : Calls
-kind1IsDay0 =
-    callsWith writeOf (λ d cell. withAnswer (contents openIsDay0) (readOf d cell)) sendOf deliverOf
-    (λ d tray. withAnswer (contents openIsDay0) (takeOf d tray))
+kind1IsDay0 = callsWith writeOf readOf sendOf deliverOf (λ d tray. withDesk (withShelfOf (shelfOfDays d (entriesTaken d tray))) (takeOf d tray))
 
 -- ---- the five slips; the last, "letting a waiting read answer after its desk's next send", is made in specs/WrongRuns.antt
 
@@ -152,4 +146,4 @@ pub record SlipsShutOut : Type 0 where
   pub sends-no-empty-sheet : ShutOut sendsNoEmptySheet
   pub own-cell-waits : ShutOut ownCellWaits
   pub kind-1-is-day-0 : ShutOut kind1IsDay0
-  pub read-ends-at-send : ShutOut readEndsAtSend
+  pub read-ends-late : ShutOut readEndsLate

@@ -1,21 +1,24 @@
--- Wrong calls: for each part of demand 3 (crates/runs/specs/TurnRules.antt), calls that are 01's but for what is said of each here, and a run of them after
--- which that part is false. So each part says something of the calls. proofs/WrongRuns.antt proves it.
+-- Wrong calls: for each part of demand 3 (crates/runs/specs/TurnRules.antt), calls that are 01's but for what is said of each here, and a
+-- run of them after which that part is false. So each part says something of the calls. proofs/WrongRuns.antt proves it.
 -- Assumes nothing.
-use mathlib.Core.Bool.{cond}
+use mathlib.Core.Bool.{Bool, cond, not, _&&_}
 use mathlib.Core.List.{List, [], _∷_}
+use mathlib.Core.Option.{none, some}
 use Prim.Native.Nat.{ℕ, _+_}
 use lib.Dec.{leb}
 use lib.IntN.{pos}
-use Rattle.answer.specs.Answer.{refused, leaves}
+use Rattle.answer.specs.Answer.{refused, accepted}
 use Rattle.content.specs.declared.Content.the-variants.{Day}
 use Rattle.layout.specs.Layout.{trailerIn}
+use Rattle.cells.specs.Cells.{filled, anywhere}
+use Rattle.sound.specs.Head.{sequential, ownTurn, readWaits, waitCell}
 use Rattle.desk.specs.declared.Desk.{Desk}
 use Rattle.desk.specs.Answers.{Done}
-use Rattle.desk.specs.Calls.{Calls, withHead, writeOf, readOf, sendRules, sendOf, deliverOf, takeOf}
+use Rattle.desk.specs.Calls.{Calls, shownAt, withHead, writeOf, readOf, sendOf, deliverOf, takeOf}
 use Rattle.runs.specs.Call.{Call, writes, sends, delivers, takes, sheetRoom}
 use Rattle.runs.specs.Run.{Shelf, RunOn}
 use Rattle.runs.specs.TurnRules.{OneTurn, OneSheet, Never, GoesOn, WaitEnds}
-use Rattle.witness.specs.Changed.{callsWith, withDesk, withLent, withWait}
+use Rattle.witness.specs.Changed.{callsWith, withAnswer, withDesk, withLent, withWait, carrying}
 use Rattle.witness.specs.RunsPlayed.{twoDesks, threeDesks, threeSheets}
 
 -- such a run, after which this part is false
@@ -67,17 +70,35 @@ roundAndOn = sends 0 sheetRoom ∷ delivers 1 0 ∷ takes 1 ∷ sends 1 sheetRoo
 
 -- ---- 5, "A read that waits is answered by its desk's accepted take number n-1 at the latest"
 
--- 01, "Slips to rule out": "letting a waiting read answer after its desk's next send". The take that brings the desk's own turn lets the read
--- wait, and the send ends it. The record between the two is not sound, since "a waiting read has .. the turn elsewhere"; so that this
--- desk can go on, its send is refused as it would be if no read waited
+-- this outcome, and where it is a refusal this record
+abbrev pub keepingRefused : Desk → Done → Done
+keepingRefused d done = record { answer = done .answer; desk = cond (accepted (done .answer)) (done .desk) d; lent = done .lent }
+
+-- 01, "Slips to rule out": "letting a waiting read answer after its desk's next send". The take that brings the desk's own turn lets the
+-- read wait; the send is carried out all the same; and the take after it answers the read. In between the record is not sound to 01, since
+-- "a waiting read has .. something pending, and the turn elsewhere": on such a record, and on no other, this desk's send and take are 01's
+-- as if no read waited
+
+-- the turn has come, and the read still waits
+abbrev pub readIsLate : Desk → Bool
+readIsLate d = sequential (d .head) && readWaits (d .head) && ownTurn (d .head)
+
+-- the sheet was sent, and the read still waits
+abbrev pub readIsLater : Desk → Bool
+readIsLater d = sequential (d .head) && readWaits (d .head) && not (anywhere 64 (filled (d .pkind)))
+
 unfoldable pub takeEndingNoRead : Desk → List ℕ → Done
-takeEndingNoRead d tray = withDesk (withWait (d .head .wait)) (takeOf (withWait 0 d) tray)
+takeEndingNoRead d tray =
+    let later = takeOf (withWait 0 d) tray in
+    cond (readIsLater d) (withAnswer (carrying (some (shownAt (later .desk) (waitCell (d .head))))) (keepingRefused d later))
+    (withAnswer (carrying none) (withDesk (withWait (d .head .wait)) (takeOf d tray)))
 
 unfoldable pub sendEndingRead : Desk → List ℕ → Done
-sendEndingRead d buf = withDesk (leaves (sendRules (withWait 0 d) buf) d) (sendOf (withWait 0 d) buf)
+sendEndingRead d buf =
+    cond (readIsLate d) (keepingRefused d (withDesk (withWait (d .head .wait)) (sendOf (withWait 0 d) buf))) (sendOf d buf)
 
-abbrev pub readEndsAtSend : Calls
-readEndsAtSend = callsWith writeOf readOf sendEndingRead deliverOf takeEndingNoRead
+abbrev pub readEndsLate : Calls
+readEndsLate = callsWith writeOf readOf sendEndingRead deliverOf takeEndingNoRead
 
 -- as 01's listing begins: desk 1 writes cell 0. It then reads cell 1 and waits, and its next take answers no content
 unfoldable pub oneWritten : List Call
@@ -91,4 +112,4 @@ pub record EachPartBites : Type 0 where
   -- the run of `Furthest`, and the delivery that is held there
   pub no-17 : Bites (Never 17) refuses17Early threeDesks threeSheets
   pub goes-on : Bites GoesOn takeLeavesSheet twoDesks roundAndOn
-  pub wait-ends : Bites WaitEnds readEndsAtSend twoDesks oneWritten
+  pub wait-ends : Bites WaitEnds readEndsLate twoDesks oneWritten

@@ -41,12 +41,12 @@ module _ {A : Type 0} where
 
 -- ---- a pair first
 
-module _ {A : Type 0} (n p : ℕ) (model : Model) (own : Updates A) where
+module _ {A : Type 0} (model : Model) (own : Updates A) where
   abbrev Looping : Updates A → (ℕ → A) → ℕ → ℕ → (ℕ → A) → Type 0
-  Looping = Loop n p model own
+  Looping = Loop model own
 
   abbrev Goes : ℕ → Type 0
-  Goes = Assigned n p model own
+  Goes = Assigned model own
 
   record AssignedFirst (x : ℕ) (v : A) (u : Updates A) (c : ℕ → A) (k j : ℕ) (after : ℕ → A) : Type 0 where
     k′ : ℕ
@@ -179,4 +179,4 @@ module _ {A : Type 0} (n p : ℕ) (model : Model) (own : Updates A) where
       }
 
 pub loops-agree : LoopsAgree
-loops-agree A n p model own u c k j k′ j′ after after′ one other = agree n p model own one other
+loops-agree A model own u c k j k′ j′ after after′ one other = agree model own one other

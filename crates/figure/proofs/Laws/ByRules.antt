@@ -1,7 +1,7 @@
 -- A call goes by its rules (specs/Demand2.antt, `ByRules`): every call of document 01 is stated by `answer` and `leaves` over its rules
 -- (crates/desk/specs/Answers.antt, `call`), so the laws of those say it.
 --   by-call          so it is of a call, where what is carried out is as it should be
---   next-keeps       the next record of such a call: sound, with its numbers
+--   sound-next       the next record of such a call: sound, with its own rest
 --   either           a rule applies, or none does
 --   settled          two outcomes by the same rules are the same, where two that are carried out are
 -- Assumes nothing.
@@ -16,7 +16,7 @@ use Rattle.desk.specs.declared.Desk.{Desk}
 use Rattle.desk.specs.Answers.{Value, Done, call}
 use Rattle.desk.specs.Calls.{sound}
 use Rattle.desk.specs.Values.{DeskFits}
-use Rattle.figure.specs.Demand2.{ByRules, Keeps}
+use Rattle.figure.specs.Demand2.{ByRules, restAt, SoundWith}
 
 pub by-call : (rules : List Rule) (d : Desk) (lent : List ℕ) (v : Value) (d′ : Desk) (lent′ : List ℕ) (CarriedOut : Done → Type 0)
     → (Silent rules → CarriedOut (record { answer = answered v; desk = d′; lent = lent′ })) → ByRules rules d lent CarriedOut (call rules d lent v d′ lent′)
@@ -29,20 +29,12 @@ by-call rules d lent v d′ lent′ CarriedOut so =
           (so silent);
     }
 
--- the record that a call leaves is the next record, where the call is carried out: it has its own numbers, and is sound if that is
-pub next-keeps : (rules : List Rule) (d d′ : Desk) → Silent rules → sound (leaves rules d d′) ≡ true → DeskFits (leaves rules d d′)
-    → Keeps (d′ .head .n) (d′ .head .m) (d′ .head .own) (d′ .head .mode) (d′ .head .turn) d′
-next-keeps rules d d′ silent is-sound fits =
+-- the record that a call leaves is the next record, where the call is carried out: it has its own rest, and is sound if that is
+pub sound-next : (rules : List Rule) (d d′ : Desk) → Silent rules → sound (leaves rules d d′) ≡ true → DeskFits (leaves rules d d′)
+    → SoundWith (restAt d′ (d′ .head .turn)) d′
+sound-next rules d d′ silent is-sound fits =
     let same = changed-if rules d d′ silent in
-    record {
-      desks = refl;
-      cells = refl;
-      own-number = refl;
-      mode-number = refl;
-      turn-number = refl;
-      is-sound = subst (λ (x : Desk). sound x ≡ true) same is-sound;
-      fits = subst DeskFits same fits;
-    }
+    record { rest-is = refl; is-sound = subst (λ (x : Desk). sound x ≡ true) same is-sound; fits = subst DeskFits same fits }
 
 pub either : {X : Type 0} (rules : List Rule) → ((k : ℕ) → First k rules → X) → (Silent rules → X) → X
 either [] some none = none tt

@@ -69,12 +69,12 @@ module _ (d : Desk) where
   causal-model : eqb (d .head .mode) 2 ≡ true → modelOf (d .head .mode) ≡ causal
   causal-model e = let two : d .head .mode ≡ 2 = eqb-true (d .head .mode) 2 e in rw two
 
-  assigned-if : (x : ℕ) (t : Bool) → eqb (d .head .mode) 2 ≡ t → t || blank (d .pkind) x ≡ true → Assigned (d .head .n) (d .head .own) (modelOf (d .head .mode)) own x
+  assigned-if : (x : ℕ) (t : Bool) → eqb (d .head .mode) 2 ≡ t → t || blank (d .pkind) x ≡ true → Assigned (modelOf (d .head .mode)) own x
   unfolding own
   assigned-if x true p q = inl (causal-model p)
   assigned-if x false p q = inr (rw q)
 
-  assigned-only-if : (x : ℕ) → eqb (d .head .mode) 2 || blank (d .pkind) x ≡ false → Assigned (d .head .n) (d .head .own) (modelOf (d .head .mode)) own x → ⊥
+  assigned-only-if : (x : ℕ) → eqb (d .head .mode) 2 || blank (d .pkind) x ≡ false → Assigned (modelOf (d .head .mode)) own x → ⊥
   unfolding own
   assigned-only-if x q (inl m) = false≢true (sym q ∙ rw (model-is-causal d m))
   assigned-only-if x q (inr e) = by-test (blank (d .pkind) x) refl
@@ -91,7 +91,7 @@ module _ (d : Desk) where
 
   pub entries-loop : (es : List Entry) (kind : List ℕ) (day : List ℤ) → length kind ≡ 64 → length day ≡ 64
       → rising es ≡ true → every (below 64) es ≡ true
-      → Loop (d .head .n) (d .head .own) (modelOf (d .head .mode)) (updatesOf (d .pkind) (d .pday)) (updatesIn es) (contentAt kind day) (length es)
+      → Loop (modelOf (d .head .mode)) (updatesOf (d .pkind) (d .pday)) (updatesIn es) (contentAt kind day) (length es)
       (wentOf (goes (head.causal (d .head)) (d .pkind)) es)
       (contentAt (laid (goes (head.causal (d .head)) (d .pkind)) kindOn kind es) (laid (goes (head.causal (d .head)) (d .pkind)) dayOn day es))
   unfolding own laid wentOf
@@ -108,21 +108,21 @@ module _ (d : Desk) where
       g = goes (head.causal (d .head)) (d .pkind)
 
       by-test : ((kind : List ℕ) (day : List ℤ) → length kind ≡ 64 → length day ≡ 64 → rising es ≡ true → every (below 64) es ≡ true
-          → Loop (d .head .n) (d .head .own) (modelOf (d .head .mode)) (updatesOf (d .pkind) (d .pday)) (updatesIn es) (contentAt kind day) (length es)
+          → Loop (modelOf (d .head .mode)) (updatesOf (d .pkind) (d .pday)) (updatesIn es) (contentAt kind day) (length es)
           (wentOf g es) (contentAt (laid g kindOn kind es) (laid g dayOn day es)))
           → (t : Bool) → g e ≡ t
-          → Loop (d .head .n) (d .head .own) (modelOf (d .head .mode)) (updatesOf (d .pkind) (d .pday)) (updatesIn (e ∷ es)) (contentAt kind day) (length (e ∷ es))
+          → Loop (modelOf (d .head .mode)) (updatesOf (d .pkind) (d .pday)) (updatesIn (e ∷ es)) (contentAt kind day) (length (e ∷ es))
           (cond (g e) 1 0 + wentOf g es) (contentAt (laid g kindOn (putIf (g e) kind (e .cell) (kindOn e)) es) (laid g dayOn (putIf (g e) day (e .cell) (dayOn e)) es))
       by-test rest true p =
           rw (p, one-more (wentOf (goes (head.causal (d .head)) (d .pkind)) es))
           (assigns (e .cell) (contentIn e) (first-of e es) (assigned-if (e .cell) (eqb (d .head .mode) 2) refl p)
-          (subst₂ (λ (u : Updates Content) (c : ℕ → Content). Loop (d .head .n) (d .head .own) (modelOf (d .head .mode)) (updatesOf (d .pkind) (d .pday)) u c (length es) (wentOf g es) (contentAt (laid g kindOn (putIf true kind (e .cell) (kindOn e)) es) (laid g dayOn (putIf true day (e .cell) (dayOn e)) es)))
+          (subst₂ (λ (u : Updates Content) (c : ℕ → Content). Loop (modelOf (d .head .mode)) (updatesOf (d .pkind) (d .pday)) u c (length es) (wentOf g es) (contentAt (laid g kindOn (putIf true kind (e .cell) (kindOn e)) es) (laid g dayOn (putIf true day (e .cell) (dayOn e)) es)))
           (extracted e es (tests .0) (tests .1))
           (copy-put kind day kl dl (e .cell) (ltb-true (e .cell) 64 (lows .0)) (kindOn e) (dayOn e))
           (rest (putIf true kind (e .cell) (kindOn e)) (putIf true day (e .cell) (dayOn e)) (place-length true kind (e .cell) (kindOn e) ∙ kl) (place-length true day (e .cell) (dayOn e) ∙ dl) (tests .1) (lows .1))))
       by-test rest false p =
           rw (p, none-more (wentOf (goes (head.causal (d .head)) (d .pkind)) es), ← put-off kind (e .cell) (kindOn e) {on = false} refl, ← put-off day (e .cell) (dayOn e) {on = false} refl)
           (passes (e .cell) (contentIn e) (first-of e es) (assigned-only-if (e .cell) p)
-          (subst (λ (u : Updates Content). Loop (d .head .n) (d .head .own) (modelOf (d .head .mode)) (updatesOf (d .pkind) (d .pday)) u (contentAt kind day) (length es) (wentOf g es) (contentAt (laid g kindOn kind es) (laid g dayOn day es)))
+          (subst (λ (u : Updates Content). Loop (modelOf (d .head .mode)) (updatesOf (d .pkind) (d .pday)) u (contentAt kind day) (length es) (wentOf g es) (contentAt (laid g kindOn kind es) (laid g dayOn day es)))
           (extracted e es (tests .0) (tests .1))
           (rest kind day kl dl (tests .1) (lows .1))))

@@ -54,5 +54,5 @@ module _ {A : Type 0} (n p : ℕ) (model : Model) (s : Process A) where
   pub same-apply : {q : ℕ} {u : Updates A} {k k′ j j′ : ℕ} {t t′ : Process A}
       → From (applies-updates q u k j) t → From (applies-updates q u k′ j′) t′ → SameApply k k′ j j′ t t′
   same-apply (apply _ q u here other there loop) (apply _ _ _ here′ other′ there′ loop′) =
-      let end = loops-agree A n p model (s .updates) u (s .copy) _ _ _ _ _ _ loop loop′ in
+      let end = loops-agree A model (s .updates) u (s .copy) _ _ _ _ _ _ loop loop′ in
       record { same-extracted = end .same-extracted; same-assigned = end .same-assigned; same-end = same-process (end .same-copies) refl refl refl refl }

@@ -23,8 +23,8 @@ use Rattle.desk.proofs.Laws.Allowed.{read-allows}
 use Rattle.keeping.proofs.Laws.Read.{read-sound, read-fits}
 use Rattle.figure.specs.Figure1.{Model, sequential, causal, cache, ∅, Waits, Event, reads, blocks, read, block}
 use Rattle.figure.specs.Map.{modelOf, processOf}
-use Rattle.figure.specs.Demand2.{ByRules, StepOf, Keeps, Next, ReadShows, returns, begins-to-wait, ReadStep}
-use Rattle.figure.proofs.Laws.ByRules.{by-call, next-keeps}
+use Rattle.figure.specs.Demand2.{ByRules, StepOf, Rest, restAt, SoundWith, ReadShows, returns, begins-to-wait, ReadStep}
+use Rattle.figure.proofs.Laws.ByRules.{by-call, sound-next}
 use Rattle.figure.proofs.Laws.Maps.{no-updates, some-updates, same-process}
 
 -- ---- models
@@ -111,10 +111,10 @@ module _ (d : Desk) (cell : ℕ) (fits : DeskFits d) where
   abbrev after : Desk
   after = cond (mustWait d cell) (waitingDesk d cell) d
 
-  shows : ReadShows cell value event
+  shows : ReadShows cell event value
   shows = by-test (mustWait d cell) refl
     where
-      by-test : (t : Bool) → mustWait d cell ≡ t → ReadShows cell value event
+      by-test : (t : Bool) → mustWait d cell ≡ t → ReadShows cell event value
       by-test true p = rw p begins-to-wait
       by-test false p = rw p (returns shown)
 
@@ -131,14 +131,13 @@ module _ (d : Desk) (cell : ℕ) (fits : DeskFits d) where
           (block (processOf d tray) cell quiet (waits-only-if d tray cell p)))
       by-test false p = rw p (read (processOf d tray) cell quiet (λ w. false≢true (sym p ∙ waits-if d tray cell w)))
 
-  -- a read that waits changes the waiting read alone, and any other nothing
-  keeps : Keeps (after .head .n) (after .head .m) (after .head .own) (after .head .mode) (after .head .turn) after → Next d (d .head .turn) after
-  keeps = by-test (mustWait d cell) refl
+  -- a read that waits changes the waiting read alone, and any other nothing: the rest stays
+  rest-stays : restAt after (after .head .turn) ≡ restAt d (d .head .turn)
+  rest-stays = by-test (mustWait d cell) refl
     where
-      by-test : (t : Bool) → mustWait d cell ≡ t
-          → Keeps (after .head .n) (after .head .m) (after .head .own) (after .head .mode) (after .head .turn) after → Next d (d .head .turn) after
-      by-test true p = rw p (λ k. k)
-      by-test false p = rw p (λ k. k)
+      by-test : (t : Bool) → mustWait d cell ≡ t → restAt after (after .head .turn) ≡ restAt d (d .head .turn)
+      by-test true p = rw p
+      by-test false p = rw p
 
   pub read-by-rules : ByRules rules d [] (ReadStep d cell) (readOf d cell)
   unfolding readOf
@@ -151,6 +150,7 @@ module _ (d : Desk) (cell : ℕ) (fits : DeskFits d) where
         event = event;
         shows = shows;
         step = read-step silent;
-        keeps = keeps (next-keeps rules d after silent (read-sound d cell fits (read-allows d cell silent .is-sound)) (read-fits d cell fits));
+        next = subst (λ (r : Rest). SoundWith r after) rest-stays
+            (sound-next rules d after silent (read-sound d cell fits (read-allows d cell silent .is-sound)) (read-fits d cell fits));
         none-lent = refl;
       })

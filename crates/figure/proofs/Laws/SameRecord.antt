@@ -1,9 +1,9 @@
--- A sound record is settled by its process, its numbers and its turn number: a kind and a day are found again in their content, since a
+-- A sound record is settled by its process and the rest (specs/Demand2.antt): a kind and a day are found again in their content, since a
 -- sound record's kinds are 0, 1 and 2, and "day numbers are 0 unless the content is a day".
 --   kind-again, day-again           a kind and a day, from their content
 --   same-kinds, same-days           so two arrays of each with the same contents are the same
 --   pending-content, wait-again     a pending place from updates_p, and the waiting read from the blocked one
---   same-record                     two records that keep the same numbers and are the same process are the same
+--   same-record                     two records with the same rest that are the same process are the same
 -- Assumes nothing.
 use Prim.Native.Nat.{ℕ, _+_, _-_, _<_, _≤_}
 use mathlib.Core.Path.{_≡_, refl, sym, ap, _∙_}
@@ -27,7 +27,7 @@ use Rattle.desk.specs.declared.Desk.{Desk}
 use Rattle.desk.proofs.Laws.Allowed.{desk-says}
 use Rattle.figure.specs.Figure1.{Process}
 use Rattle.figure.specs.Map.{updatesOf, processOf}
-use Rattle.figure.specs.Demand2.{Keeps}
+use Rattle.figure.specs.Demand2.{Rest, SoundWith}
 
 -- ---- a kind and a day, from their content
 
@@ -104,12 +104,13 @@ wait-again d tray = by-test (eqb (d .head .wait) 0) refl
 
 -- ---- the record
 
-pub same-record : {n m own mode turn : ℕ} (d e : Desk) (tray : List ℕ) → Keeps n m own mode turn d → Keeps n m own mode turn e → processOf d tray ≡ processOf e tray → d ≡ e
+pub same-record : {rest : Rest} (d e : Desk) (tray : List ℕ) → SoundWith rest d → SoundWith rest e → processOf d tray ≡ processOf e tray → d ≡ e
 same-record d e tray one other same =
     let s = desk-says d (one .is-sound) in
     let s′ = desk-says e (other .is-sound) in
     let fits = one .fits in
     let fits′ = other .fits in
+    let rest = one .rest-is ∙ sym (other .rest-is) in
     let shelf : (i : ℕ) → contentAt (d .kind) (d .day) i ≡ contentAt (e .kind) (e .day) i = λ i. ap (λ (x : Process Content). x .copy i) same in
     let pending : (i : ℕ) → contentAt (d .pkind) (d .pday) i ≡ contentAt (e .pkind) (e .pday) i =
     λ i. sym (pending-content (d .pkind) (d .pday) i) ∙ ap (λ (x : Process Content). or-blank (x .updates i)) same ∙ pending-content (e .pkind) (e .pday) i
@@ -122,11 +123,11 @@ same-record d e tray one other same =
     λ i.
     record {
       head = record {
-        n = (one .desks ∙ sym (other .desks)) i;
-        m = (one .cells ∙ sym (other .cells)) i;
-        own = (one .own-number ∙ sym (other .own-number)) i;
-        mode = (one .mode-number ∙ sym (other .mode-number)) i;
-        turn = (one .turn-number ∙ sym (other .turn-number)) i;
+        n = rest i .desks;
+        m = rest i .cells;
+        own = rest i .own-number;
+        mode = rest i .mode-number;
+        turn = rest i .turn-number;
         wait = wait i;
       };
       kind = kinds i;

@@ -36,7 +36,7 @@ use Rattle.keeping.proofs.Laws.Sheets.{sheet-read, sheet-entries}
 use Rattle.figure.specs.Figure1.{broadcasts, send}
 use Rattle.figure.specs.Map.{processOf, updatesOf, updatesIn, carried}
 use Rattle.figure.specs.Demand2.{ByRules, StepOf, SendStep}
-use Rattle.figure.proofs.Laws.ByRules.{by-call, next-keeps}
+use Rattle.figure.proofs.Laws.ByRules.{by-call, sound-next}
 use Rattle.figure.proofs.Laws.Maps.{same-process}
 use Rattle.figure.proofs.Laws.Opens.{alike}
 
@@ -125,7 +125,7 @@ module _ (d : Desk) (fits : DeskFits d) (s : Sound (d .head) (d .kind) (d .day) 
   quiet : (tray : List ℕ) → processOf d tray .blocked ≡ none
   quiet tray = rw none-waits
 
-  pub sent-step : (tray : List ℕ) → StepOf d (processOf d tray) (broadcasts (processOf d tray .updates)) (processOf (sentDesk d) tray)
+  pub sent-step : (tray : List ℕ) → StepOf d (processOf d tray) (broadcasts (updatesOf (d .pkind) (d .pday))) (processOf (sentDesk d) tray)
   sent-step tray =
       subst (StepOf d (processOf d tray) (broadcasts (processOf d tray .updates)))
       (same-process refl (sym (fun-ext (λ x. rw (alike {A = ℕ} 0 x)))) (mod-add-mod (d .head .turn) (d .head .n) 1) (sym (quiet tray)) refl)
@@ -147,10 +147,10 @@ send-by-rules d buf fits =
       entries = count;
       answer = refl;
       step = sent-step d fits s own more;
-      keeps = next-keeps rules d (sentDesk d) silent (send-sound d buf fits (allowed .is-sound)) (send-fits d buf fits);
+      next = sound-next rules d (sentDesk d) silent (send-sound d buf fits (allowed .is-sound)) (send-fits d buf fits);
       sheet = bytes;
       buffer = refl;
       are-bytes = sheet-bytes (d .head) (d .pkind) (d .pday) (s .own-below) (s .desks-most) (s .cells-most) (s .pkind-is);
       reads-back = sheet-read d fits s own more;
-      carries = λ tray. sheet-carries d fits s own more;
+      carries = sheet-carries d fits s own more;
     })

@@ -33,7 +33,7 @@ use Rattle.keeping.proofs.Laws.Take.{take-sound, take-fits}
 use Rattle.figure.specs.Figure1.{Process, without, reads, finish, apply}
 use Rattle.figure.specs.Map.{processOf, updatesIn, updatesOf, received}
 use Rattle.figure.specs.Demand2.{ByRules, StepOf, ThenFinishes, nothing-to-finish, finishes, TakeSteps}
-use Rattle.figure.proofs.Laws.ByRules.{by-call, next-keeps}
+use Rattle.figure.proofs.Laws.ByRules.{by-call, sound-next}
 use Rattle.figure.proofs.Laws.Loops.{entries-loop}
 use Rattle.figure.proofs.Laws.Maps.{same-process}
 
@@ -158,10 +158,11 @@ take-by-rules d tray fits are-bytes =
       applied = went;
       waited = waited;
       answer = refl;
-      numbers = λ i. record { entries = count i; sender = due .sender i; desks = due .desks i; cells = due .cells i; turn = due .turn i };
+      sheet-turn = due .turn;
+      sheet-entries = count;
       between = between d es tray;
       step = apply (processOf d tray) q (updatesIn es) refl elsewhere there loop;
       then = then-finishes d es tray (clearedIn tray q) (given-up tray q (holds .room));
-      keeps = next-keeps rules d (takenDesk d es) silent (take-sound d tray fits (allowed .is-sound)) (take-fits d tray are-bytes fits);
+      next = sound-next rules d (takenDesk d es) silent (take-sound d tray fits (allowed .is-sound)) (take-fits d tray are-bytes fits);
       place = refl;
     })

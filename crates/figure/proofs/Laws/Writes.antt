@@ -21,7 +21,7 @@ use Rattle.keeping.proofs.Laws.Write.{write-sound, write-fits}
 use Rattle.figure.specs.Figure1.{assign, include, remove, writes, write}
 use Rattle.figure.specs.Map.{processOf, updatesOf}
 use Rattle.figure.specs.Demand2.{ByRules, StepOf, WriteStep}
-use Rattle.figure.proofs.Laws.ByRules.{by-call, next-keeps}
+use Rattle.figure.proofs.Laws.ByRules.{by-call, sound-next}
 use Rattle.figure.proofs.Laws.Maps.{copy-put, updates-put, same-process}
 
 module _ (d : Desk) (cell : ℕ) (c : Content) (fits : DeskFits d) where
@@ -50,6 +50,6 @@ module _ (d : Desk) (cell : ℕ) (c : Content) (fits : DeskFits d) where
       record {
         answer = refl;
         step = written-step silent;
-        keeps = next-keeps rules d (writtenDesk d cell c) silent (write-sound d cell c fits (write-allows d cell c silent .is-sound)) (write-fits d cell c small fits);
+        next = sound-next rules d (writtenDesk d cell c) silent (write-sound d cell c fits (write-allows d cell c silent .is-sound)) (write-fits d cell c small fits);
         none-lent = refl;
       })
