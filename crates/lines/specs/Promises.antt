@@ -1,5 +1,6 @@
 -- What is promised of the lines of a schedule. Together: a line says a step exactly if it is the line of a step within the limits, and line 1
--- likewise; so no other spaces, digits, signs or letters are read. proofs/Steps.antt and proofs/Starts.antt prove it.
+-- likewise; so no other spaces, digits, signs or letters are read. And of the enums of `schedule` and `printing`, that two different values never
+-- say the same. proofs/Steps.antt and proofs/Starts.antt prove it, and proofs/Printed.antt what is of `StepAnswer`.
 -- Assumes nothing.
 use mathlib.Core.Path.{_≡_}
 use mathlib.Core.Option.{some}
