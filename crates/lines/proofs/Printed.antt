@@ -29,7 +29,7 @@ use Rattle.printing.specs.Printing.{contentText, waitedText, stepAnswerText, li
 use Rattle.lines.specs.Line.{spaced}
 use Rattle.lines.specs.Promises.{StepAnswersApart}
 use Rattle.lines.specs.Printed.{Of32Bits, ContentFits, WaitedFits, AnswerFits, NeverAlike, ContentsPrintedApart, LinesPrintedApart}
-use Rattle.lines.proofs.Words.{apart, all-free, words-ended, number-back, number-free, ContentSaid, content-said}
+use Rattle.lines.proofs.Words.{apart, all-free, words-ended, number-back, number-free, content-said}
 
 -- ---- what the words of a line say
 

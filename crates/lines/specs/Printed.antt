@@ -54,9 +54,9 @@ AnswerFits (ofCall (answered (taken turn entries applied waited))) =
 AnswerFits nothingSent = Unit {0}
 AnswerFits badLine = Unit {0}
 
--- no two lines are printed alike, whatever is printed behind them: two that are have the same step number and the same answer, and the same
--- stands behind both. So what waits, or was refused, or carries no content, is not printed as what carries one; nor is `nothing sent` or
--- `bad line` printed as a call's answer
+-- no two lines are printed alike, whatever is printed behind them: where the bytes are the same, so are the step number, the answer, and what
+-- stands behind. So what waits, or was refused, or carries no content, is not printed as what carries one, and `nothing sent` and `bad line`
+-- are printed as no call's answer
 abbrev pub LinesPrintedApart : Type 0
 LinesPrintedApart =
     (k j : ℕ) (a b : StepAnswer) (rest other : List ℕ) → Of32Bits k → Of32Bits j → AnswerFits a → AnswerFits b
