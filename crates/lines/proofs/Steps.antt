@@ -3,6 +3,8 @@
 --   one-line-per-step : OneLinePerStep
 --   every-step-has-a-line : EveryStepHasALine
 --   no-step-of-cut           a cut line says none
+--   saidAct-tells-apart : ActsApart
+--   saidStep-tells-apart : StepsApart
 -- Assumes nothing.
 use mathlib.Core.Path.{_≡_, refl, sym, ap, _∙_, subst}
 use mathlib.Core.List.{List, [], _∷_}
@@ -11,15 +13,20 @@ use mathlib.Core.Option.{Option, none, some}
 use Prim.Native.Nat.{ℕ, _<_, _≤_}
 use Prim.Native.String.{String}
 use native.Mathlib.Omega.{arith}
+use Rattle.answer.proofs.Laws as answer
 use Rattle.text.specs.Text.{text}
 use Rattle.text.specs.Decimal.{value, decimal}
 use Rattle.text.proofs.Laws.Decimal.{and-split}
 use Rattle.schedule.specs.Lines.{Line, ended, cut}
 use Rattle.schedule.specs.Words.{words, is, isNumber, isDesk, isContentWord, contentOfWord}
 use Rattle.content.specs.declared.Content.{Content}
-use Rattle.schedule.specs.Step.{Act, writes, reads, sends, delivers, takes, Step, writeIn, readIn, deliverIn, deskIn, stepOf, stepIn}
+use Rattle.schedule.specs.declared.Act as declared-act
+use Rattle.schedule.specs.declared.Act.the-variants as act
+use Rattle.schedule.specs.declared.Step as declared-step
+use Rattle.schedule.specs.declared.Step.the-variants as step
+use Rattle.schedule.specs.Step.{Act, writes, reads, sends, delivers, takes, Step, writeIn, readIn, deliverIn, deskIn, stepOf, stepIn, saidAct, saidStep}
 use Rattle.lines.specs.Line.{spaced, contentWord, wordsBy, stepLine}
-use Rattle.lines.specs.Promises.{StepInRange, StepsAreInRange, OneLinePerStep, EveryStepHasALine}
+use Rattle.lines.specs.Promises.{StepInRange, StepsAreInRange, OneLinePerStep, EveryStepHasALine, ActsApart, StepsApart}
 use Rattle.lines.proofs.Words.{apart, all-free, words-spaced, spaced-words, word-is, number-most, number-word, desk-below, desk-word, number-back, number-free, number-said, desk-said, content-read, content-said}
 
 -- ---- read
@@ -213,3 +220,35 @@ module _ (n : ℕ) (few : n ≤ 4294967296) where
 
 pub every-step-has-a-line : EveryStepHasALine
 every-step-has-a-line n step few range = reads-back n few (step .desk) (step .act) range
+
+-- ---- the code's enums
+
+acting : Act → declared-act.Act
+acting (writes cell c) = act.Write cell c
+acting (reads cell) = act.Read cell
+acting sends = act.Send
+acting (delivers q) = act.Deliver q
+acting takes = act.Take
+
+act-found : (a : declared-act.Act) → acting (saidAct a) ≡ a
+unfolding acting
+act-found (act.Write cell c) = refl
+act-found (act.Read cell) = refl
+act-found act.Send = refl
+act-found (act.Deliver q) = refl
+act-found act.Take = refl
+
+pub saidAct-tells-apart : ActsApart
+saidAct-tells-apart a b = answer.apart saidAct acting act-found
+
+stepping : Option Step → declared-step.Step
+stepping none = step.Bad
+stepping (some x) = step.Does (x .desk) (acting (x .act))
+
+step-found : (a : declared-step.Step) → stepping (saidStep a) ≡ a
+unfolding stepping
+step-found (step.Does p a) = ap (step.Does p) (act-found a)
+step-found step.Bad = refl
+
+pub saidStep-tells-apart : StepsApart
+saidStep-tells-apart a b = answer.apart saidStep stepping step-found

@@ -1,6 +1,7 @@
 -- Laws of words: how each is written that reads as something, and that what is written reads back.
 --   apart                                   0 is not 1: what follows where two constructors would be equal
 --   free, all-free, words-spaced            words without spaces, spaced, are the words of that line
+--   words-ended                             and of what begins with that line and a line feed, of its first line
 --   spaced-words                            the words of a line, spaced, are the line
 --   word-is                                 a word that is this text
 --   number-most, number-word                a word that reads as a number: the number has 32 bits, and the word is what is printed of it
@@ -25,7 +26,7 @@ use Rattle.content.specs.declared.Content.the-variants.{Blank, Open, Day}
 use Rattle.content.specs.Content.{dayOf}
 use Rattle.numbers.specs.Limits.{within}
 use Rattle.text.specs.Text.{text}
-use Rattle.text.specs.Separated.{parts, ontoFirst, space, minus}
+use Rattle.text.specs.Separated.{parts, firstPart, ontoFirst, lineFeed, space, minus}
 use Rattle.text.specs.Decimal.{isDigit, digits, isDecimal, value, decimal, noLeadingZero, signedDecimal}
 use Rattle.text.specs.Promises.{ReadsBack}
 use Rattle.text.proofs.Laws.Decimal.{and-split, decimal-is}
@@ -38,34 +39,73 @@ apart e = absurd (omega arith)
 
 -- ---- spaced, and parted
 
--- no byte of the word is a space
+-- no byte of the text is this one
+abbrev without : ℕ → List ℕ → Bool
+without sep [] = true
+without sep (b ∷ bs) = not (eqb b sep) && without sep bs
+
+-- every byte of the word is above the space, and so above the line feed
 abbrev pub free : List ℕ → Bool
 free [] = true
-free (b ∷ bs) = not (eqb b space) && free bs
+free (b ∷ bs) = ltb space b && free bs
 
 abbrev pub all-free : List (List ℕ) → Bool
 all-free [] = true
 all-free (w ∷ ws) = free w && all-free ws
 
-alone : (w : List ℕ) → free w ≡ true → parts space w ≡ w ∷ []
+module _ (sep : ℕ) (low : sep ≤ space) where
+  free-without : (w : List ℕ) → free w ≡ true → without sep w ≡ true
+  free-without [] t = refl
+  free-without (b ∷ bs) t =
+      let both = and-split (ltb space b) (free bs) t in
+      let above = ltb-true space b (both .0) in
+      rw (ne-eqb b sep (λ e. omega arith)) (free-without bs (both .1))
+
+alone : (w : List ℕ) → without space w ≡ true → parts space w ≡ w ∷ []
 unfolding parts
 alone [] t = refl
 alone (b ∷ bs) t =
-    let both = and-split (not (eqb b space)) (free bs) t in
+    let both = and-split (not (eqb b space)) (without space bs) t in
     rw (not-true (eqb b space) (both .0), alone bs (both .1))
 
-before-a-space : (w rest : List ℕ) → free w ≡ true → parts space (w ++ space ∷ rest) ≡ w ∷ parts space rest
+before-a-space : (w rest : List ℕ) → without space w ≡ true → parts space (w ++ space ∷ rest) ≡ w ∷ parts space rest
 unfolding parts
 before-a-space [] rest t = refl
 before-a-space (b ∷ bs) rest t =
-    let both = and-split (not (eqb b space)) (free bs) t in
+    let both = and-split (not (eqb b space)) (without space bs) t in
     rw (not-true (eqb b space) (both .0), before-a-space bs rest (both .1))
 
 pub words-spaced : (w : List ℕ) (ws : List (List ℕ)) → all-free (w ∷ ws) ≡ true → parts space (spaced (w ∷ ws)) ≡ w ∷ ws
-words-spaced w [] t = alone w (and-split (free w) true t .0)
+words-spaced w [] t = alone w (free-without space (omega arith) w (and-split (free w) true t .0))
 words-spaced w (v ∷ ws) t =
     let both = and-split (free w) (all-free (v ∷ ws)) t in
-    before-a-space w (spaced (v ∷ ws)) (both .0) ∙ ap (λ (l : List (List ℕ)). w ∷ l) (words-spaced v ws (both .1))
+    before-a-space w (spaced (v ∷ ws)) (free-without space (omega arith) w (both .0)) ∙ ap (λ (l : List (List ℕ)). w ∷ l) (words-spaced v ws (both .1))
+
+-- ---- spaced, and ended
+
+before-a-feed : (l rest : List ℕ) → without lineFeed l ≡ true → firstPart lineFeed (l ++ lineFeed ∷ rest) ≡ l
+unfolding firstPart
+before-a-feed [] rest t = refl
+before-a-feed (b ∷ bs) rest t =
+    let both = and-split (not (eqb b lineFeed)) (without lineFeed bs) t in
+    rw (not-true (eqb b lineFeed) (both .0), before-a-feed bs rest (both .1))
+
+both-without : (l more : List ℕ) → without lineFeed l ≡ true → without lineFeed more ≡ true → without lineFeed (l ++ more) ≡ true
+both-without [] more t u = u
+both-without (b ∷ bs) more t u =
+    let both = and-split (not (eqb b lineFeed)) (without lineFeed bs) t in
+    rw (both .0) (both-without bs more (both .1) u)
+
+spaced-without : (w : List ℕ) (ws : List (List ℕ)) → all-free (w ∷ ws) ≡ true → without lineFeed (spaced (w ∷ ws)) ≡ true
+spaced-without w [] t = free-without lineFeed (omega arith) w (and-split (free w) true t .0)
+spaced-without w (v ∷ ws) t =
+    let both = and-split (free w) (all-free (v ∷ ws)) t in
+    both-without w (space ∷ spaced (v ∷ ws)) (free-without lineFeed (omega arith) w (both .0)) (spaced-without v ws (both .1))
+
+-- what stands behind the line feed does not matter
+pub words-ended : (w : List ℕ) (ws : List (List ℕ)) (rest : List ℕ) → all-free (w ∷ ws) ≡ true
+    → parts space (firstPart lineFeed (spaced (w ∷ ws) ++ lineFeed ∷ rest)) ≡ w ∷ ws
+words-ended w ws rest t = ap (parts space) (before-a-feed (spaced (w ∷ ws)) rest (spaced-without w ws t)) ∙ words-spaced w ws t
 
 -- ---- parted, and spaced
 
@@ -149,7 +189,7 @@ digits-free [] t = refl
 digits-free (b ∷ bs) t =
     let both = and-split (isDigit b) (digits bs) t in
     let low = leb-true 48 b (and-split (leb 48 b) (leb b 57) (both .0) .0) in
-    rw (ne-eqb b space (λ e. omega arith)) (digits-free bs (both .1))
+    rw (lt-ltb space b (omega arith)) (digits-free bs (both .1))
 
 module _ (k : ℕ) (small : k ≤ 4294967295) where
   pub number-back : ReadsBack k

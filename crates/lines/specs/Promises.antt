@@ -1,5 +1,6 @@
 -- What is promised of the lines of a schedule. Together: a line says a step exactly if it is the line of a step within the limits, and line 1
--- likewise; so no other spaces, digits, signs or letters are read. proofs/Steps.antt and proofs/Starts.antt prove it.
+-- likewise; so no other spaces, digits, signs or letters are read. And of the enums of `schedule` and `printing`, that two different values never
+-- say the same. proofs/Steps.antt and proofs/Starts.antt prove it, and proofs/Printed.antt what is of `StepAnswer`.
 -- Assumes nothing.
 use mathlib.Core.Path.{_≡_}
 use mathlib.Core.Option.{some}
@@ -9,10 +10,14 @@ use mir.Val.{SFits}
 use Rattle.content.specs.declared.Content.{Content}
 use Rattle.content.specs.declared.Content.the-variants.{Blank}
 use Rattle.content.specs.Content.{dayOf}
-use Rattle.schedule.specs.declared.Start as declared
+use Rattle.schedule.specs.declared.Start as declared-start
+use Rattle.schedule.specs.declared.Act as declared-act
+use Rattle.schedule.specs.declared.Step as declared-step
+use Rattle.printing.specs.declared.StepAnswer as declared-answer
 use Rattle.schedule.specs.Lines.{Line, ended}
 use Rattle.schedule.specs.Start.{Start, startIn, saidStart}
-use Rattle.schedule.specs.Step.{writes, reads, delivers, Step, stepIn}
+use Rattle.schedule.specs.Step.{writes, reads, delivers, Step, stepIn, saidAct, saidStep}
+use Rattle.printing.specs.StepAnswer.{saidStepAnswer}
 use Rattle.lines.specs.Line.{stepLine, startLine}
 
 -- ---- steps
@@ -57,6 +62,19 @@ OneLinePerStart = (l : Line) (x : Start) → startIn l ≡ some x → l ≡ ende
 abbrev pub EveryStartHasALine : Type 0
 EveryStartHasALine = (x : Start) → StartInRange x → startIn (ended (startLine x)) ≡ some x
 
--- two different answers of `start_in` never say the same
+-- ---- the code's enums: two different values never say the same
+
+-- what `start_in` answers
 abbrev pub StartsApart : Type 0
-StartsApart = (a b : declared.Start) → saidStart a ≡ saidStart b → a ≡ b
+StartsApart = (a b : declared-start.Start) → saidStart a ≡ saidStart b → a ≡ b
+
+-- what `step_in` answers, and the act in it
+abbrev pub ActsApart : Type 0
+ActsApart = (a b : declared-act.Act) → saidAct a ≡ saidAct b → a ≡ b
+
+abbrev pub StepsApart : Type 0
+StepsApart = (a b : declared-step.Step) → saidStep a ≡ saidStep b → a ≡ b
+
+-- what a step comes to
+abbrev pub StepAnswersApart : Type 0
+StepAnswersApart = (a b : declared-answer.StepAnswer) → saidStepAnswer a ≡ saidStepAnswer b → a ≡ b
