@@ -1,5 +1,4 @@
--- What is promised of a desk's answers beside the calls' contracts. proofs/Laws/Answers.antt proves it. That calls keep a record sound is
--- stated in crates/keeping, that each is a step of Figure 1 in crates/figure.
+-- What is promised of a desk's answers beside the calls' contracts. proofs/Laws/Answers.antt proves it. Demand 2 is stated in crates/figure.
 -- Assumes nothing.
 use mathlib.Core.Path.{_≡_}
 use Rattle.desk.specs.declared.Answer.{Answer}

@@ -1,2 +1,2 @@
-// Figure 1 of source document 000, and that every call of a desk is a step of it: specs and proofs,
-// and no code.
+// Figure 1 of source document 000, and demand 2: that a desk's calls answer and change it as the
+// figure says. Specs and proofs, and no code.

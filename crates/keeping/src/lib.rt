@@ -1,2 +1,2 @@
-// That an open gives a sound record and every other call keeps it sound, and what else the calls of
-// a desk keep: specs and proofs, and no code.
+// What the calls of a desk keep: lent bytes as long as they were, and, as laws for the crates above,
+// a record sound. Specs and proofs, and no code.

@@ -1,2 +1,2 @@
-// Runs played by computing, and wrong calls of which parts of demand 3 are false: specs and proofs,
-// and no code.
+// That demands 2 and 3 say something: runs played by computing, and wrong calls of which they are
+// false. Specs and proofs, and no code.

@@ -1,5 +1,5 @@
 -- What an answer says, it alone says.
---   said-tells-apart : AnswersApart (specs/Promises.antt)
+--   saidAnswer-tells-apart : AnswersApart (specs/Promises.antt)
 -- Assumes nothing.
 use mathlib.Core.Path.{_≡_, refl}
 use mathlib.Core.Option.{none, some}
