@@ -1,4 +1,4 @@
--- Lines as 01 writes them (specs/Samples.antt), each by computing.
+-- Lines as 01 has them written (specs/Samples.antt), each by computing.
 --   each-form-reads : EachForm, edges-read : AtTheEdges, other-forms : OtherForms, other-starts : OtherStarts
 -- Assumes nothing.
 use mathlib.Core.Path.{refl}
@@ -11,7 +11,7 @@ use Rattle.lines.specs.Samples.{EachForm, AtTheEdges, OtherForms, OtherS
 
 pub each-form-reads : EachForm
 unfolding parts isDecimal valueFrom value is isNumber isDesk isDayWord dayOfWord isContentWord contentOfWord modeIn startIn stepIn
-each-form-reads = record { start = refl; step-1 = refl; step-2 = refl; step-4 = refl; step-5 = refl; step-6 = refl; step-8 = refl }
+each-form-reads = record { start = refl; write-day = refl; write-open = refl; read = refl; send = refl; deliver = refl; take = refl }
 
 pub edges-read : AtTheEdges
 unfolding parts isDecimal valueFrom value is isNumber isDesk isDayWord dayOfWord isContentWord contentOfWord modeIn startIn stepIn

@@ -1,5 +1,5 @@
--- Lines as 01 writes them, and what they say: one of each form, from its listing, the greatest and least, and lines of other forms; on a shelf of
--- two desks. proofs/Samples.antt computes each.
+-- Lines as 01 has them written, and what they say: one of each form, the greatest and least, and lines of other forms; on a shelf of two desks.
+-- proofs/Samples.antt computes each.
 -- Assumes nothing.
 use mathlib.Core.Path.{_≡_}
 use mathlib.Core.Option.{none, some}
@@ -23,14 +23,16 @@ SaysStart line x = startIn (ended (text line)) ≡ some x
 abbrev pub SaysNoStart : String → Type 0
 SaysNoStart line = startIn (ended (text line)) ≡ none
 
+-- "Line 1: desks, cells, mode letter (`s`, `c`, `k` for cache, `-` for default)"; "Steps: `w` desk cell day-or-`open`; `r` desk cell; `s` desk; `d` sender
+-- receiver (sender's latest sheet, again if wanted); `t` desk."
 pub record EachForm : Type 0 where
-  pub start : SaysStart "2 2 s" (record { n = 2; m = 2; mode = 1 })
-  pub step-1 : SaysStep "w 1 0 0" (record { desk = 1; act = writes 0 (Day (pos 0)) })
-  pub step-2 : SaysStep "r 1 1" (record { desk = 1; act = reads 1 })
-  pub step-4 : SaysStep "s 0" (record { desk = 0; act = sends })
-  pub step-5 : SaysStep "d 0 1" (record { desk = 1; act = delivers 0 })
-  pub step-6 : SaysStep "t 1" (record { desk = 1; act = takes })
-  pub step-8 : SaysStep "w 0 1 open" (record { desk = 0; act = writes 1 Open })
+  pub start : SaysStart "3 5 s" (record { n = 3; m = 5; mode = 1 })
+  pub write-day : SaysStep "w 1 4 7" (record { desk = 1; act = writes 4 (Day (pos 7)) })
+  pub write-open : SaysStep "w 0 3 open" (record { desk = 0; act = writes 3 Open })
+  pub read : SaysStep "r 1 0" (record { desk = 1; act = reads 0 })
+  pub send : SaysStep "s 0" (record { desk = 0; act = sends })
+  pub deliver : SaysStep "d 0 1" (record { desk = 1; act = delivers 0 })
+  pub take : SaysStep "t 1" (record { desk = 1; act = takes })
 
 pub record AtTheEdges : Type 0 where
   pub greatest-cell : SaysStep "r 0 4294967295" (record { desk = 0; act = reads 4294967295 })

@@ -1,11 +1,15 @@
--- 01, "The program `rounds`": its listing, input and output, to the byte. They are the files `stdin` and `stdout` of this crate, too.
+-- 01, "The program `rounds`": its listing, input and output, to the byte; and that it is a run of demand 3. The strings are the lines of this crate's files
+-- `stdin` and `stdout`: those are the source, and tools/listing holds the strings to them.
 -- Assumes nothing.
 use Prim.Native.Nat.{ℕ}
 use Prim.Native.String.{String}
 use mathlib.Core.Path.{_≡_}
 use mathlib.Core.List.{List, [], _∷_, _++_}
 use Rattle.text.specs.Text.{text}
+use Rattle.schedule.specs.Lines.{Line}
+use Rattle.schedule.specs.Start.{Start}
 use Rattle.play.specs.Rounds.{printed}
+use Rattle.ruled.specs.Promises.{Playable, IsARun}
 
 -- "each line, read or printed, ended by one line feed"
 abbrev pub lines : List String → List ℕ
@@ -50,3 +54,10 @@ output =
 
 abbrev pub Listing : Type 0
 Listing = printed input ≡ output
+
+-- its line 1 says a shelf whose desks can be opened, the lines behind it are calls of a run of demand 3 on that shelf, and `output` are that run's answers
+pub record ListingIsARun : Type 0 where
+  pub shelf : Start
+  pub steps : List Line
+  pub plays : Playable input shelf steps
+  pub run : IsARun input shelf steps

@@ -20,7 +20,7 @@ use Rattle.runs.specs.Call.{Call, writes, reads, delivers, takes, sheetRoom}
 use Rattle.desk.specs.Calls.{Calls, document01}
 use Rattle.runs.specs.Run.{Shelf, State, sheetNo, start, Run, RunOn, reached}
 use Rattle.runs.specs.TurnRules.{turnOf, HasTurn, CanSend, CanTake, answers-it}
-use Rattle.witness.specs.RunsPlayed.{twoDesks, threeDesks, listingCalls, listingAnswers, ListingIsARun, HoldsUntaken, oneSheet, twoSheets, TwoHold, beforeTheRead, whileItWaits, untilAnswered, waitAnswers, sinceTheRead, LongestWait, sheetOnTheLine, NobodySends, threeSheets, threeSheetsAnswers, Furthest, fullShelf, written, FullSheet, RunsPlayed}
+use Rattle.witness.specs.RunsPlayed.{twoDesks, threeDesks, HoldsUntaken, oneSheet, twoSheets, TwoHold, beforeTheRead, whileItWaits, untilAnswered, waitAnswers, sinceTheRead, LongestWait, sheetOnTheLine, NobodySends, threeSheets, threeSheetsAnswers, Furthest, fullShelf, written, FullSheet, RunsPlayed}
 use Rattle.runs.proofs.Laws.Fresh.{in-order}
 use Rattle.runs.proofs.Laws.Going.{can-take}
 use Rattle.runs.proofs.Laws.Shelves.{sized}
@@ -32,10 +32,6 @@ on-two calls cs e = record { within = sized 2 2 1 refl; run = is-run calls 2 (st
 
 pub on-three : (calls : Calls) (cs : List Call) → allPossible calls 3 (start calls threeDesks) cs ≡ true → RunOn calls threeDesks cs
 on-three calls cs e = record { within = sized 3 2 1 refl; run = is-run calls 3 (start calls threeDesks) cs e }
-
-listing : ListingIsARun
-unfolding computing sheetRoom listingCalls listingAnswers
-listing = record { run = on-two document01 listingCalls refl; answers-are = refl }
 
 -- an empty sheet of 3 desks and 2 cells, by the desk and with the turn number k
 empty : ℕ → List ℕ
@@ -148,7 +144,6 @@ full-sheet =
 pub runs-played : RunsPlayed
 runs-played =
     record {
-      listing = listing;
       two-hold = two-hold;
       longest-wait = longest-wait;
       nobody-sends = nobody-sends;

@@ -1,5 +1,5 @@
--- Runs, played by computing the definitions of the calls. They show that what demand 3 speaks of comes about, 01's listing among it, and that
--- some of what it says cannot be said more strongly. proofs/RunsPlayed.antt proves it.
+-- Runs, played by computing the definitions of the calls. They show that what demand 3 speaks of comes about, and that some of what it says cannot be
+-- said more strongly. (01's listing is a run, too: crates/rounds/specs/Listing.antt.) proofs/RunsPlayed.antt proves it.
 -- Assumes nothing.
 use mathlib.Core.Path.{_≡_}
 use mathlib.Core.List.{List, [], _∷_, _++_}
@@ -8,9 +8,9 @@ use Prim.Native.Nat.{ℕ, zero, suc, _+_, _-_, _<_}
 use lib.IntN.{pos}
 use lib.ListN.{replicate}
 use Rattle.answer.specs.Answer.{Answer, refused, answered}
-use Rattle.content.specs.declared.Content.the-variants.{Blank, Open, Day}
+use Rattle.content.specs.declared.Content.the-variants.{Open, Day}
 use Rattle.layout.specs.Layout.{trailerIn}
-use Rattle.desk.specs.Answers.{Value, stored, holds, waits, sent, held, taken}
+use Rattle.desk.specs.Answers.{Value, stored, waits, sent, held, taken}
 use Rattle.runs.specs.Call.{Call, writes, reads, sends, delivers, takes, sheetRoom}
 use Rattle.desk.specs.Calls.{document01}
 use Rattle.runs.specs.Run.{Shelf, State, sheetNo, start, made, after, Possible, answersOf, RunOn, reached}
@@ -18,7 +18,7 @@ use Rattle.runs.specs.TurnRules.{turnOf, BeforeTheEnd, HasTurn, Untaken, CanSen
 
 -- ---- what the runs share
 
--- 01's listing begins with "2 2 s": 2 desks, 2 cells, sequential
+-- 2 desks, 2 cells, sequential
 abbrev pub twoDesks : Shelf
 twoDesks = record { n = 2; m = 2; mode = λ p. 1 }
 
@@ -30,41 +30,6 @@ threeDesks = record { n = 3; m = 2; mode = λ p. 1 }
 pub record Plays (shelf : Shelf) (cs : List Call) (answers : List (Answer Value)) : Type 0 where
   pub run : RunOn document01 shelf cs
   pub answers-are : answersOf document01 (start document01 shelf) cs ≡ answers
-
--- ---- 01, "The program `rounds`": its input and its output
-
-unfoldable pub listingCalls : List Call
-listingCalls =
-    writes 1 0 (Day (pos 0))
-    ∷ reads 1 1
-    ∷ reads 1 0
-    ∷ sends 0 sheetRoom
-    ∷ delivers 1 0
-    ∷ takes 1
-    ∷ sends 1 sheetRoom
-    ∷ writes 0 1 Open
-    ∷ delivers 0 1
-    ∷ takes 0
-    ∷ reads 0 0
-    ∷ []
-
-unfoldable pub listingAnswers : List (Answer Value)
-listingAnswers =
-    answered stored
-    ∷ answered waits
-    ∷ refused 8
-    ∷ answered (sent 0 0)
-    ∷ answered held
-    ∷ answered (taken 0 0 0 (some Blank))
-    ∷ answered (sent 1 1)
-    ∷ answered stored
-    ∷ answered held
-    ∷ answered (taken 1 1 1 none)
-    ∷ answered (holds (Day (pos 0)))
-    ∷ []
-
-abbrev pub ListingIsARun : Type 0
-ListingIsARun = Plays twoDesks listingCalls listingAnswers
 
 -- ---- "a desk has at most one sent and untaken sheet from each other desk": of several desks it may have one each
 
@@ -228,7 +193,6 @@ pub record FullSheet : Type 0 where
 -- ---- all of them
 
 pub record RunsPlayed : Type 0 where
-  pub listing : ListingIsARun
   pub two-hold : TwoHold
   pub longest-wait : LongestWait
   pub nobody-sends : NobodySends

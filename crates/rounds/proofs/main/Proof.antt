@@ -1,48 +1,69 @@
--- `main` is safe: what is written is the front of the buffer (`Prints`, crates/play/specs/Rounds.antt).
+-- `main` is safe: what is played is the front of the buffer (`Within`, specs/Input.antt).
 -- Assumes nothing.
 use borrow.Author.Needs.{needs}
-use mathlib.Core.Path.{sym}
+use mathlib.Core.Path.{_≡_, sym, subst}
+use mathlib.Core.List.{List}
+use Prim.Native.Nat.{ℕ, _≤_}
+use lib.ListN.{length, take}
 use lib.Seq.{length-take-le}
+use Rattle.rounds.specs.declared.Input.{Input}
+use Rattle.rounds.specs.declared.Input.the-variants.{Read}
+use Rattle.rounds.specs.Input.{Within}
 use Rattle.rounds.proofs.main.Statement.{statement}
 use Rattle.rounds.proofs.main.Tie as tie
 
-slice-aggregate-read-full : tie.Need-slice-aggregate-read-full
-slice-aggregate-read-full c = search needs
+module _ (buf : List ℕ) (r : Input) (so : Within buf r) (len : ℕ) (is : r ≡ Read len) where
+  within : len ≤ length buf
+  within = subst (Within buf) is so
 
-read-full-requires : tie.Need-read-full-requires
-read-full-requires c κs = search needs
+  front : len ≡ length (take len buf)
+  front = sym (length-take-le _ _ within)
+
+slice-aggregate-read-all : tie.Need-slice-aggregate-read-all
+slice-aggregate-read-all c = search needs
+
+read-all-requires : tie.Need-read-all-requires
+read-all-requires c κs = search needs
+
+enum-known-len : tie.Need-enum-known-len
+enum-known-len c = search needs
 
 array-share-prefix-input : tie.Need-array-share-prefix-input
-array-share-prefix-input c = search needs
+array-share-prefix-input c = search (within, needs)
 
-slice-aggregate-play : tie.Need-slice-aggregate-play
-slice-aggregate-play c = search needs
+slice-aggregate-print : tie.Need-slice-aggregate-print
+slice-aggregate-print c = search (front, needs)
 
-play-requires : tie.Need-play-requires
-play-requires c κs = search needs
+print-requires : tie.Need-print-requires
+print-requires c κs = search needs
 
-array-share-prefix-out : tie.Need-array-share-prefix-out
-array-share-prefix-out c = c .play .ensures .room
+enum-told : tie.Need-enum-told
+enum-told c = search needs
 
-slice-aggregate-write-all : tie.Need-slice-aggregate-write-all
-slice-aggregate-write-all c = sym (length-take-le _ _ (c .before .play .ensures .room))
+slice-aggregate-fail : tie.Need-slice-aggregate-fail
+slice-aggregate-fail c = search needs
 
-write-all-requires : tie.Need-write-all-requires
-write-all-requires c κs = search needs
+fail-requires : tie.Need-fail-requires
+fail-requires c κs = search needs
 
 returns : tie.Need-returns
 returns c = search needs
+
+returns-2 : tie.Need-returns-2
+returns-2 c = search needs
 
 pub main-spec : {M : Type 1} → statement M
 main-spec =
     tie.close
     (tie.spec
-    slice-aggregate-read-full
-    read-full-requires
+    slice-aggregate-read-all
+    read-all-requires
+    enum-known-len
     array-share-prefix-input
-    slice-aggregate-play
-    play-requires
-    array-share-prefix-out
-    slice-aggregate-write-all
-    write-all-requires
-    returns)
+    slice-aggregate-print
+    print-requires
+    enum-told
+    slice-aggregate-fail
+    fail-requires
+    returns
+    returns-2)
