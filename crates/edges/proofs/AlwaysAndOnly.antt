@@ -1,7 +1,7 @@
 -- Example 5's "always" and example 6's "only": by the rules of a read that is answered, and of a delivery that is.
 -- Assumes nothing.
-use mathlib.Core.Path.{_≡_, refl, sym, _∙_}
-use mathlib.Core.Bool.{Bool, true, false, _&&_}
+use mathlib.Core.Path.{_≡_, sym, _∙_}
+use mathlib.Core.Bool.{true, false, _&&_, and-false}
 use Prim.Native.Nat.{ℕ, _%_, _≤_, _<_}
 use native.Mathlib.Omega.{arith}
 use native.Mathlib.Nat.{mod-lt}
@@ -21,11 +21,7 @@ use Rattle.edges.proofs.Slips.{read-as-said, waits-is-no-content}
 -- on its own turn a desk's read is answered at once
 own-turn-answers : (d : Desk) (i : ℕ) → ownTurn (d .head) ≡ true → mustWait d i ≡ false
 unfolding mustWait
-own-turn-answers d i own = rw own (ends-shut (sequential (d .head) && anywhere 64 (filled (d .pkind)) && blank (d .pkind) i))
-  where
-    ends-shut : (a : Bool) → a && false ≡ false
-    ends-shut true = refl
-    ends-shut false = refl
+own-turn-answers d i own = rw own (and-false (sequential (d .head) && anywhere 64 (filled (d .pkind)) && blank (d .pkind) i))
 
 pub always-and-only : AlwaysAndOnly
 unfolding readOf deliverOf ofThree
