@@ -7,7 +7,7 @@
 -- Assumes nothing.
 use Prim.Native.Nat.{ℕ, zero, suc, _+_, _≤_, _<_}
 use mathlib.Core.Path.{_≡_, refl, sym, ap, _∙_}
-use mathlib.Core.Bool.{Bool, true, false, cond, not, _&&_, _||_, false≢true}
+use mathlib.Core.Bool.{Bool, true, false, cond, not, _&&_, _||_, false≢true, and-eq-true-iff, or-true, or-false}
 use mathlib.Core.List.{List}
 use native.Mathlib.Omega.{arith}
 use native.Mathlib.Nat.{not-suc-le-zero}
@@ -78,18 +78,14 @@ place-length on l i x = by-test (on && ltb i 64)
 
 -- ---- a test of each place, and of some
 
-split : (a b : Bool) → (a && b) ≡ true → (a ≡ true) × (b ≡ true)
-split true b e = (refl, e)
-split false b e = absurd (false≢true e)
-
 pub each-at : (n : ℕ) (p : ℕ → Bool) → each n p ≡ true → (i : ℕ) → i < n → p i ≡ true
 unfolding each
 each-at zero p e i h = absurd (not-suc-le-zero h)
 each-at (suc n) p e i h = by-last (each-at n p) (eqb i n) refl
   where
     by-last : (each n p ≡ true → (i : ℕ) → i < n → p i ≡ true) → (t : Bool) → eqb i n ≡ t → p i ≡ true
-    by-last rest true q = ap p (eqb-true i n q) ∙ split (each n p) (p n) e .1
-    by-last rest false q = let other = eqb-false i n q in rest (split (each n p) (p n) e .0) i (omega arith)
+    by-last rest true q = ap p (eqb-true i n q) ∙ and-eq-true-iff (each n p) (p n) .0 e .1
+    by-last rest false q = let other = eqb-false i n q in rest (and-eq-true-iff (each n p) (p n) .0 e .0) i (omega arith)
 
 pub each-if : (n : ℕ) (p : ℕ → Bool) → ((i : ℕ) → i < n → p i ≡ true) → each n p ≡ true
 unfolding each
@@ -119,10 +115,6 @@ unfolding anywhere
 some-if zero p i h e = absurd (not-suc-le-zero h)
 some-if (suc n) p i h e = by-last (some-if n p i) (eqb i n) refl
   where
-    or-true : (a : Bool) → (a || true) ≡ true
-    or-true true = refl
-    or-true false = refl
-
     by-last : (i < n → p i ≡ true → anywhere n p ≡ true) → (t : Bool) → eqb i n ≡ t → (anywhere n p || p n) ≡ true
     by-last rest true q = rw (sym (ap p (eqb-true i n q)) ∙ e) (or-true (anywhere n p))
     by-last rest false q = let other = eqb-false i n q in rw (rest (omega arith) e)
@@ -138,14 +130,10 @@ unfolding anywhere
 some-at zero p e = absurd (false≢true e)
 some-at (suc n) p e = by-last (some-at n p) (p n) refl
   where
-    or-left : (a : Bool) → (a || false) ≡ true → a ≡ true
-    or-left true q = refl
-    or-left false q = q
-
     by-last : (anywhere n p ≡ true → Somewhere n p) → (t : Bool) → p n ≡ t → Somewhere (suc n) p
     by-last rest true q = record { place = n; below = omega arith; holds = q }
     by-last rest false q =
-        let s = rest (or-left (anywhere n p) (rw q at e)) in
+        let s = rest (sym (or-false (anywhere n p)) ∙ (rw q at e)) in
         record { place = s .place; below = omega (arith, s .below); holds = s .holds }
 
 -- ---- the loops

@@ -1,7 +1,7 @@
 -- What examples 5 and 6 say of every such desk and every sheet: by the rules of a read and of a delivery.
 -- Assumes nothing.
 use mathlib.Core.Path.{_≡_, refl, sym, ap, _∙_}
-use mathlib.Core.Bool.{Bool, true, false, not, _&&_}
+use mathlib.Core.Bool.{Bool, true, false, not, _&&_, and-false}
 use mathlib.Core.List.{List}
 use Prim.Native.Nat.{ℕ, _+_, _*_, _%_, _≤_, _<_}
 use native.Mathlib.Omega.{arith}
@@ -28,11 +28,7 @@ use Rattle.edges.proofs.Slips.{read-as-said, waits-is-no-content}
 -- on its own turn a desk's read is answered at once
 own-turn-answers : (d : Desk) (i : ℕ) → ownTurn (d .head) ≡ true → mustWait d i ≡ false
 unfolding mustWait
-own-turn-answers d i own = rw own (ends-shut (sequential (d .head) && anywhere 64 (filled (d .pkind)) && blank (d .pkind) i))
-  where
-    ends-shut : (a : Bool) → a && false ≡ false
-    ends-shut true = refl
-    ends-shut false = refl
+own-turn-answers d i own = rw own (and-false (sequential (d .head) && anywhere 64 (filled (d .pkind)) && blank (d .pkind) i))
 
 -- of fewer than two desks, it is always its own
 module _ (d : Desk) (s : sound d ≡ true) (few : d .head .n < 2) where

@@ -2,7 +2,7 @@
 -- none of which applies where it is answered.
 -- Assumes nothing.
 use mathlib.Core.Path.{_≡_, refl, sym, ap, _∙_}
-use mathlib.Core.Bool.{Bool, true, false, cond, not, _&&_, _||_, false≢true}
+use mathlib.Core.Bool.{Bool, true, false, cond, not, _&&_, and-false}
 use mathlib.Core.List.{List, [], _++_}
 use mathlib.Core.Option.{Option, some}
 use Prim.Native.Nat.{ℕ, zero, suc, _≤_, _<_}
@@ -15,6 +15,7 @@ use Rattle.answer.specs.Promises.{Silent}
 use Rattle.answer.proofs.Laws.{answered-only-if, answered-if, changed-if}
 use Rattle.content.specs.declared.Content.{Content}
 use Rattle.content.specs.declared.Content.the-variants.{Open}
+use Rattle.numbers.proofs.Tests.{neither}
 use Rattle.layout.specs.declared.Entry.{Entry}
 use Rattle.layout.specs.Layout.{sheetBytes, trailerFor}
 use Rattle.laying.specs.Laying.{laidOver}
@@ -47,10 +48,6 @@ none-pending pkind pday zero e = refl
 none-pending pkind pday (suc n) e =
     let both = neither (anywhere n (filled pkind)) (filled pkind n) e in
     rw (none-pending pkind pday n (both .0), both .1)
-  where
-    neither : (a b : Bool) → a || b ≡ false → (a ≡ false) × (b ≡ false)
-    neither true b q = absurd (false≢true (sym q))
-    neither false b q = (refl, q)
 
 module _ (d : Desk) (buf : List ℕ) (s : sound d ≡ true) (own : ownTurn (d .head) ≡ true) (more : d .head .turn < lastTurn)
     (room : 12 ≤ length buf) (nothing : anywhere 64 (filled (d .pkind)) ≡ false) where
@@ -100,12 +97,7 @@ module _ (d : Desk) (i : ℕ) where
 
   pending-answers : filled (d .pkind) i ≡ true → mustWait d i ≡ false
   unfolding mustWait
-  pending-answers f =
-      rw (not-true (blank (d .pkind) i) f) (shut (sequential (d .head) && anywhere 64 (filled (d .pkind))) (not (ownTurn (d .head))))
-    where
-      shut : (a b : Bool) → a && false && b ≡ false
-      shut true b = refl
-      shut false b = refl
+  pending-answers f = rw (not-true (blank (d .pkind) i) f, and-false (sequential (d .head) && anywhere 64 (filled (d .pkind))))
 
   pending-cell-answers : filled (d .pkind) i ≡ true → readOf d i .answer ≡ answered waits → ⊥
   pending-cell-answers f e = waits-is-no-content _ (sym (rw (pending-answers f) at (read-as-said waits e)))

@@ -14,7 +14,7 @@ use lib.Dec.{eqb}
 use borrow.Author.Tests.{eqb-true, eqb-false}
 use Rattle.answer.proofs.Laws as answer
 use Rattle.text.specs.Decimal.{value, decimal}
-use Rattle.text.proofs.Laws.Decimal.{and-split}
+use Rattle.numbers.proofs.Tests.{and-split}
 use Rattle.schedule.specs.declared.Start as declared
 use Rattle.schedule.specs.declared.Start.the-variants as start
 use Rattle.schedule.specs.Lines.{Line, ended, cut}

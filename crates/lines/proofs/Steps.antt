@@ -16,7 +16,7 @@ use native.Mathlib.Omega.{arith}
 use Rattle.answer.proofs.Laws as answer
 use Rattle.text.specs.Text.{text}
 use Rattle.text.specs.Decimal.{value, decimal}
-use Rattle.text.proofs.Laws.Decimal.{and-split}
+use Rattle.numbers.proofs.Tests.{and-split}
 use Rattle.schedule.specs.Lines.{Line, ended, cut}
 use Rattle.schedule.specs.Words.{words, is, isNumber, isDesk, isContentWord, contentOfWord}
 use Rattle.content.specs.declared.Content.{Content}

@@ -25,11 +25,12 @@ use Rattle.content.specs.declared.Content.{Content}
 use Rattle.content.specs.declared.Content.the-variants.{Blank, Open, Day}
 use Rattle.content.specs.Content.{dayOf}
 use Rattle.numbers.specs.Limits.{within}
+use Rattle.numbers.proofs.Tests.{and-split}
 use Rattle.text.specs.Text.{text}
 use Rattle.text.specs.Separated.{parts, firstPart, ontoFirst, lineFeed, space, minus}
 use Rattle.text.specs.Decimal.{isDigit, digits, isDecimal, value, decimal, noLeadingZero, signedDecimal}
 use Rattle.text.specs.Promises.{ReadsBack}
-use Rattle.text.proofs.Laws.Decimal.{and-split, decimal-is}
+use Rattle.text.proofs.Laws.Decimal.{decimal-is}
 use Rattle.text.proofs.Laws.ReadBack.{printed-reads-back, read-prints-back}
 use Rattle.schedule.specs.Words.{same, is, isNumber, isDesk, isDayWord, dayOfWord, isContentWord, contentOfWord}
 use Rattle.lines.specs.Line.{spaced, contentWord}

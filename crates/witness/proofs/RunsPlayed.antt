@@ -10,10 +10,10 @@ use native.Mathlib.Omega.{arith}
 use lib.Dec.{eqb, ltb}
 use lib.IntN.{pos}
 use lib.ListN.{length}
-use borrow.Author.Tests.{ltb-true, eqb-false, not-true}
+use borrow.Author.Tests.{ltb-true}
 use Rattle.answer.proofs.Laws.{refused-is-not-answered}
 use Rattle.content.specs.declared.Content.the-variants.{Open, Day}
-use Rattle.sheet.proofs.Laws.Bools.{and-split}
+use Rattle.numbers.proofs.Tests.{tested}
 use Rattle.tray.specs.Tray.{sheetAt}
 use Rattle.refusals.specs.Rules.{lastTurn}
 use Rattle.runs.specs.Call.{Call, writes, reads, delivers, takes, sheetRoom}
@@ -61,12 +61,7 @@ module _ (cs : List Call) (p k : ℕ) where
 takes-next : (shelf : Shelf) (cs : List Call) (p : ℕ) → RunOn document01 shelf cs
     → (let k = turnOf (reached document01 shelf cs) p in ltb p (shelf .n) && ltb k (length (reached document01 shelf cs .line)) && not (eqb (k % shelf .n) p) && ltb k lastTurn ≡ true)
     → CanTake document01 (reached document01 shelf cs) p
-takes-next shelf cs p r e =
-    let k = turnOf (reached document01 shelf cs) p in
-    let low = and-split (ltb p (shelf .n) && ltb k (length (reached document01 shelf cs .line)) && not (eqb (k % shelf .n) p)) (ltb k lastTurn) e in
-    let other = and-split (ltb p (shelf .n) && ltb k (length (reached document01 shelf cs .line))) (not (eqb (k % shelf .n) p)) (low .0) in
-    let behind = and-split (ltb p (shelf .n)) (ltb k (length (reached document01 shelf cs .line))) (other .0) in
-    can-take (in-order shelf cs r) p (ltb-true _ _ (behind .0)) (ltb-true _ _ (behind .1)) (eqb-false (k % shelf .n) p (not-true _ (other .1))) (ltb-true _ _ (low .1))
+takes-next shelf cs p r e = can-take (in-order shelf cs r) p (search tested) (search tested) (search tested) (search tested)
 
 two-hold : TwoHold
 unfolding computing sheetRoom oneSheet twoSheets empty

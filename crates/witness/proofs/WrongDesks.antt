@@ -12,13 +12,12 @@ use native.Mathlib.Omega.{arith}
 use lib.Dec.{ltb}
 use lib.IntN.{pos}
 use lib.ListN.{replicate}
-use borrow.Author.Tests.{ltb-true}
 use Rattle.answer.specs.Answer.{Answer, refused, answered}
 use Rattle.content.specs.declared.Content.the-variants.{Open, Day}
 use Rattle.content.specs.Content.{kindOf}
 use Rattle.cells.specs.Cells.{kindAt}
 use Rattle.layout.specs.Values.{AreBytes}
-use Rattle.sheet.proofs.Laws.Bools.{and-split}
+use Rattle.numbers.proofs.Tests.{tested}
 use Rattle.desk.specs.declared.Desk.{Desk}
 use Rattle.desk.specs.Answers.{Value, opened, stored, holds, waits, sent, held, taken, Done}
 use Rattle.desk.specs.Calls.{Calls, document01, blankDesk, writeOf, readOf, sendOf, deliverOf}
@@ -102,8 +101,8 @@ all-bytes (b ∷ bs) = ltb b 256 && all-bytes bs
 are-bytes-if : (l : List ℕ) → all-bytes l ≡ true → AreBytes l
 unfolding all-bytes
 are-bytes-if [] e i = omega arith
-are-bytes-if (b ∷ bs) e zero = ltb-true b 256 (and-split (ltb b 256) (all-bytes bs) e .0)
-are-bytes-if (b ∷ bs) e (suc i) = are-bytes-if bs (and-split (ltb b 256) (all-bytes bs) e .1) i
+are-bytes-if (b ∷ bs) e zero = search tested
+are-bytes-if (b ∷ bs) e (suc i) = are-bytes-if bs (search tested) i
 
 -- a sheet of desk 0 with open in cell 0, at turn number 2; and one with open in both cells, at turn number 0
 open-in-0 : List ℕ

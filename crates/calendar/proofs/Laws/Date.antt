@@ -7,14 +7,14 @@
 --   days-to-small, date-of-days-to, is-date-at, days-to-date-at     the same of a date and of a day: each comes back from the other
 --   next-date                            the next date lies one day on
 -- Assumes nothing.
-use mathlib.Core.Path.{_≡_, refl, ap, sym, subst, _∙_}
+use mathlib.Core.Path.{_≡_, refl, ap, subst, _∙_}
 use mathlib.Core.Bool.{Bool, true, false, cond, _&&_}
 use Prim.Native.Nat.{ℕ, suc, _+_, _-_, _≤_, _<_}
 use native.Mathlib.Numerals.{add-one}
 use native.Mathlib.Omega.{arith}
-use lib.Dec.{T, leb, ltb}
+use lib.Dec.{leb, ltb}
 use borrow.Author.Tests.{ltb-true, ltb-false, le-leb}
-use mir.Facts.{and-yes, leb-yes}
+use Rattle.numbers.proofs.Tests.{tested}
 use Rattle.calendar.specs.Spans.{before, spanOf}
 use Rattle.calendar.specs.declared.Date.{Date}
 use Rattle.calendar.specs.Calendar.{leap, monthLength, yearLength, isDate, daysTo, yearAt, dayInYear, monthAt, dateAt, nextDate}
@@ -35,32 +35,11 @@ pub record Fields (t : Date) : Type 0 where
 
 -- what the code has tested before it looks the month up
 pub month-tested : (years : Bool) (m : ℕ) → (years && leb 1 m && leb m 12) ≡ true → (1 ≤ m) × (m ≤ 12)
-month-tested years m e =
-    let last = and-yes (years && leb 1 m) (leb m 12) (subst T (sym e) tt) in
-    (leb-yes (and-yes years (leb 1 m) (last .0) .1), leb-yes (last .1))
+month-tested years m e = search tested
 
 pub fields : (t : Date) → isDate t ≡ true → Fields t
 unfolding isDate
-fields t e =
-    let y₁ = leb 1901 (t .year) in
-    let y₂ = leb (t .year) 2199 in
-    let m₁ = leb 1 (t .month) in
-    let m₂ = leb (t .month) 12 in
-    let d₁ = leb 1 (t .day) in
-    let d₂ = leb (t .day) (monthLength (t .year) (t .month - 1)) in
-    let to-d₂ = and-yes (y₁ && y₂ && m₁ && m₂ && d₁) d₂ (subst T (sym e) tt) in
-    let to-d₁ = and-yes (y₁ && y₂ && m₁ && m₂) d₁ (to-d₂ .0) in
-    let to-m₂ = and-yes (y₁ && y₂ && m₁) m₂ (to-d₁ .0) in
-    let to-m₁ = and-yes (y₁ && y₂) m₁ (to-m₂ .0) in
-    let to-y₂ = and-yes y₁ y₂ (to-m₁ .0) in
-    record {
-      year-first = leb-yes (to-y₂ .0);
-      year-last = leb-yes (to-y₂ .1);
-      month-first = leb-yes (to-m₁ .1);
-      month-last = leb-yes (to-m₂ .1);
-      day-first = leb-yes (to-d₁ .1);
-      day-last = leb-yes (to-d₂ .1);
-    }
+fields t e = search tested depth 8
 
 pub of-fields : (t : Date) → Fields t → isDate t ≡ true
 unfolding isDate

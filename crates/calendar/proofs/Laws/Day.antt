@@ -6,14 +6,14 @@
 --   is-day            the number of a day
 --   day-fits          which a signed 32-bit number holds
 -- Assumes nothing.
-use mathlib.Core.Path.{_≡_, refl, ap, sym, subst, _∙_}
+use mathlib.Core.Path.{_≡_, refl, ap, sym, _∙_}
 use mathlib.Core.Bool.{Bool, true, false, cond}
 use Prim.Native.Nat.{ℕ, suc, _+_, _-_, _≤_, _<_}
 use native.Mathlib.Omega.{arith}
-use lib.Dec.{T, leb, ltb}
+use lib.Dec.{ltb}
 use lib.IntN.{ℤ, pos, negsuc, _+ℤ_, _-ℤ_, +ℤ-negℤ-cancel}
-use borrow.Author.Tests.{ltb-true, ltb-false, le-ltb, le-leb}
-use mir.Facts.{and-yes, leb-yes}
+use borrow.Author.Tests.{leb-true, ltb-true, ltb-false, le-ltb, le-leb}
+use Rattle.numbers.proofs.Tests.{tested}
 use mir.Syntax.{w32}
 use mir.Val.{SFits}
 use Rattle.calendar.specs.Spans.{before}
@@ -37,9 +37,9 @@ pub record Index (z : ℤ) : Type 0 where
 
 pub index : (z : ℤ) → isDay z ≡ true → Index z
 unfolding isDay
-index (pos n) e = record { i = n + 25202; small = omega (arith, leb-yes {a = n} {b = 84006} (subst T (sym e) tt)); plus = refl }
+index (pos n) e = record { i = n + 25202; small = omega (arith, leb-true n 84006 e); plus = refl }
 index (negsuc n) e =
-    let low : n ≤ 25201 = leb-yes (and-yes (leb n 25201) true (subst T (sym e) tt) .0) in
+    let low : n ≤ 25201 = search tested in
     record { i = 25202 - suc n; small = omega arith; plus = rw (le-ltb 25202 (suc n) (omega arith)) }
 
 pub index-is : (z : ℤ) (x : Index z) → z ≡ pos (x .i) -ℤ pos 25202
@@ -55,5 +55,5 @@ is-day i h = within i (ltb i 25202) refl h
 
 pub day-fits : (z : ℤ) → isDay z ≡ true → SFits w32 z
 unfolding isDay
-day-fits (pos n) e = record { sfits = omega (arith, leb-yes {a = n} {b = 84006} (subst T (sym e) tt)) }
-day-fits (negsuc n) e = record { sfits = omega (arith, leb-yes {a = n} {b = 25201} (and-yes (leb n 25201) true (subst T (sym e) tt) .0)) }
+day-fits (pos n) e = record { sfits = omega (arith, leb-true n 84006 e) }
+day-fits (negsuc n) e = let low : n ≤ 25201 = search tested in record { sfits = omega arith }

@@ -3,7 +3,7 @@
 --   month                                of month m: its length and the days before it by the tables, and bounds on both
 --   month-guessed, month-after-guess     so the month of day j is j / 32, or the next if that one begins by then
 -- Assumes nothing.
-use mathlib.Core.Path.{_≡_, subst}
+use mathlib.Core.Path.{_≡_, refl, subst}
 use mathlib.Core.Bool.{Bool, true, false, cond, _&&_}
 use mathlib.Core.Logic.{⊎-elim}
 use mathlib.Core.List.{List, [], _∷_}
@@ -11,9 +11,9 @@ use Prim.Native.Nat.{ℕ, zero, suc, _+_, _*_, _/_, _≤_, _<_}
 use native.Mathlib.Nat.{eq-or-lt-of-le, not-suc-le-zero}
 use native.Mathlib.Numerals.{add-one}
 use native.Mathlib.Omega.{arith}
-use lib.Dec.{T, eqb, leb}
+use lib.Dec.{eqb, leb}
 use lib.ListN.{getD}
-use mir.Facts.{and-yes, eqb-yes, leb-yes}
+use Rattle.numbers.proofs.Tests.{and-split, tested}
 use Rattle.calendar.specs.Spans.{before, spanOf}
 use Rattle.calendar.specs.Calendar.{lengthIn}
 use Rattle.calendar.proofs.Laws.Spans.{before-orders, span-found}
@@ -42,17 +42,17 @@ unfoldable all : (ℕ → Bool) → ℕ → Bool
 all f zero = true
 all f (suc n) = f n && all f n
 
-at : (f : ℕ → Bool) (n : ℕ) → T (all f n) → (m : ℕ) → m < n → T (f m)
+at : (f : ℕ → Bool) (n : ℕ) → all f n ≡ true → (m : ℕ) → m < n → f m ≡ true
 unfolding all
 at f zero t m h = absurd (not-suc-le-zero h)
 at f (suc n) t m h =
-    let both : T (f n) × T (all f n) = and-yes (f n) (all f n) t in
-    ⊎-elim (λ e. subst (λ (k : ℕ). T (f k)) (omega arith) (both .0)) (λ l. at f n (both .1) m (omega arith)) (eq-or-lt-of-le h)
+    let both = and-split (f n) (all f n) t in
+    ⊎-elim (λ e. subst (λ (k : ℕ). f k ≡ true) (omega arith) (both .0)) (λ l. at f n (both .1) m (omega arith)) (eq-or-lt-of-le h)
 
-tested : (l : Bool) → T (all (right l) 13)
+all-right : (l : Bool) → all (right l) 13 ≡ true
 unfolding all right before lengthIn
-tested true = tt
-tested false = tt
+all-right true = refl
+all-right false = refl
 
 -- ---- what it shows of month m
 
@@ -68,27 +68,7 @@ pub record Month (l : Bool) (m : ℕ) : Type 0 where
 
 pub month : (l : Bool) (m : ℕ) → m ≤ 12 → Month l m
 unfolding right
-month l m h =
-    let days = before (lengthIn l) m in
-    let lasts? = eqb (lengthIn l m) (getD lengths m 0 + cond (l && eqb m 1) 1 0) in
-    let begins? = eqb days (getD daysBefore m 0 + cond (l && leb 2 m) 1 0) in
-    let by? = leb days (32 * m) in
-    let after? = leb (32 * m) (days + 32) in
-    let short? = leb (lengthIn l m) 31 in
-    let some? = leb 12 (m + lengthIn l m) in
-    let six = and-yes (lasts? && begins? && by? && after? && short?) some? (at (right l) 13 (tested l) m (omega arith)) in
-    let five = and-yes (lasts? && begins? && by? && after?) short? (six .0) in
-    let four = and-yes (lasts? && begins? && by?) after? (five .0) in
-    let three = and-yes (lasts? && begins?) by? (four .0) in
-    let two = and-yes lasts? begins? (three .0) in
-    record {
-      lasts = eqb-yes (two .0);
-      begins = eqb-yes (two .1);
-      by = leb-yes (three .1);
-      after = leb-yes (four .1);
-      short = leb-yes (five .1);
-      some = leb-yes (six .1);
-    }
+month l m h = search (at (right l) 13 (all-right l) m (omega arith), tested) depth 8
 
 -- ---- the inverse: the month of a day
 

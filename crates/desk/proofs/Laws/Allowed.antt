@@ -10,21 +10,21 @@ use mathlib.Core.Path.{_≡_}
 use mathlib.Core.Logic.{_≢_}
 use mathlib.Core.Bool.{true, false, not}
 use mathlib.Core.List.{List}
-use lib.Dec.{eqb, leb}
+use lib.Dec.{eqb}
 use lib.ListN.{length}
-use borrow.Author.Tests.{eqb-true, eqb-false, leb-true, leb-false, ltb-false, not-false, eq-eqb, le-leb, lt-leb, le-ltb}
+use borrow.Author.Tests.{eq-eqb, le-leb, lt-leb, le-ltb}
 use Rattle.answer.specs.Promises.{Silent}
 use Rattle.content.specs.declared.Content.{Content}
 use Rattle.content.specs.Content.{kindOf}
 use Rattle.numbers.specs.Limits.{within}
+use Rattle.numbers.proofs.Tests.{tested}
 use Rattle.layout.specs.Layout.{trailerIn, numbersOf}
 use Rattle.sheet.specs.Good.{good}
-use Rattle.sheet.proofs.Laws.Bools.{and-split}
 use Rattle.sound.specs.Head.{turnDesk, ownTurn, readWaits}
 use Rattle.sound.proofs.Laws.Sound.{Sound, sound-says}
 use Rattle.tray.specs.Tray.{free, sheetAt, holdsGood}
 use Rattle.pending.specs.Pending.{sheetOf}
-use Rattle.refusals.specs.Rules.{lastTurn, isNext}
+use Rattle.refusals.specs.Rules.{lastTurn}
 use Rattle.refusals.proofs.Laws.Next.{Next, next-says, next-if}
 use Rattle.desk.specs.declared.Desk.{Desk}
 use Rattle.desk.specs.Calls.{sound, openRules, writeRules, readRules, sendRules, deliverRules, takeRules}
@@ -45,17 +45,7 @@ pub record OpenAllowed (n m own mode : ℕ) : Type 0 where
   pub mode-most : mode ≤ 3
 
 pub open-allows : (n m own mode : ℕ) → Silent (openRules n m own mode) → OpenAllowed n m own mode
-open-allows n m own mode silent =
-    let desks = and-split (leb 1 n) (leb n 16) (not-false _ (silent .0)) in
-    let cells = and-split (leb 1 m) (leb m 64) (not-false _ (silent .1 .0)) in
-    record {
-      desks-least = leb-true 1 n (desks .0);
-      desks-most = leb-true n 16 (desks .1);
-      cells-least = leb-true 1 m (cells .0);
-      cells-most = leb-true m 64 (cells .1);
-      own-below = leb-false n own (silent .1 .1 .0);
-      mode-most = ltb-false 3 mode (silent .1 .1 .1 .0);
-    }
+open-allows n m own mode silent = search tested
 
 pub open-if : (n m own mode : ℕ) → OpenAllowed n m own mode → Silent (openRules n m own mode)
 open-if n m own mode a =
@@ -71,13 +61,7 @@ module _ (d : Desk) where
     pub none-waits : readWaits (d .head) ≡ false
 
   pub write-allows : (cell : ℕ) (c : Content) → Silent (writeRules d cell c) → WriteAllowed cell c
-  write-allows cell c silent =
-      record {
-        is-sound = not-false (sound d) (silent .0);
-        cell-below = leb-false (d .head .m) cell (silent .1 .0);
-        not-blank = eqb-false (kindOf c) 0 (silent .1 .1 .0);
-        none-waits = silent .1 .1 .1 .0;
-      }
+  write-allows cell c silent = search tested
 
   pub record ReadAllowed (cell : ℕ) : Type 0 where
     pub is-sound : sound d ≡ true
@@ -85,12 +69,7 @@ module _ (d : Desk) where
     pub none-waits : readWaits (d .head) ≡ false
 
   pub read-allows : (cell : ℕ) → Silent (readRules d cell) → ReadAllowed cell
-  read-allows cell silent =
-      record {
-        is-sound = not-false (sound d) (silent .0);
-        cell-below = leb-false (d .head .m) cell (silent .1 .0);
-        none-waits = silent .1 .1 .0;
-      }
+  read-allows cell silent = search tested
 
   pub record SendAllowed (buf : List ℕ) : Type 0 where
     pub is-sound : sound d ≡ true
@@ -99,13 +78,7 @@ module _ (d : Desk) where
     pub room : length (sheetOf (d .head) (d .pkind) (d .pday)) ≤ length buf
 
   pub send-allows : (buf : List ℕ) → Silent (sendRules d buf) → SendAllowed buf
-  send-allows buf silent =
-      record {
-        is-sound = not-false (sound d) (silent .0);
-        own-turn = not-false (ownTurn (d .head)) (silent .1 .0);
-        not-last = silent .1 .1 .0;
-        room = ltb-false (length buf) (length (sheetOf (d .head) (d .pkind) (d .pday))) (silent .1 .1 .1 .0);
-      }
+  send-allows buf silent = search tested
 
   pub send-if : (buf : List ℕ) → SendAllowed buf → Silent (sendRules d buf)
   send-if buf a =
@@ -123,21 +96,7 @@ module _ (d : Desk) where
     pub place-free : free tray (trailerIn s .sender) ≡ true
 
   pub deliver-allows : (tray s : List ℕ) → Silent (deliverRules d tray s) → DeliverAllowed tray s
-  deliver-allows tray s silent =
-      let h = d .head in
-      let x = trailerIn s in
-      let shelf = and-split (eqb (x .desks) (h .n)) (eqb (x .cells) (h .m)) (not-false _ (silent .1 .1 .1 .0)) in
-      record {
-        is-sound = not-false (sound d) (silent .0);
-        tray-fits = eqb-true (length tray) (398 * h .n) (not-false _ (silent .1 .0));
-        sheet-good = not-false (good s) (silent .1 .1 .0);
-        same-desks = eqb-true (x .desks) (h .n) (shelf .0);
-        same-cells = eqb-true (x .cells) (h .m) (shelf .1);
-        other-sender = eqb-false (x .sender) (h .own) (silent .1 .1 .1 .1 .0);
-        due = ltb-false (x .turn) (h .turn) (silent .1 .1 .1 .1 .1 .0);
-        near = leb-false (h .turn + h .n) (x .turn) (silent .1 .1 .1 .1 .1 .1 .0);
-        place-free = not-false (free tray (x .sender)) (silent .1 .1 .1 .1 .1 .1 .1 .0);
-      }
+  deliver-allows tray s silent = search tested
 
   pub record TakeAllowed (tray : List ℕ) : Type 0 where
     pub is-sound : sound d ≡ true
@@ -149,19 +108,7 @@ module _ (d : Desk) where
     pub is-next : Next (d .head) (numbersOf (trailerIn (sheetAt tray (turnDesk (d .head)))))
 
   pub take-allows : (tray : List ℕ) → Silent (takeRules d tray) → TakeAllowed tray
-  take-allows tray silent =
-      let h = d .head in
-      let x = numbersOf (trailerIn (sheetAt tray (turnDesk h))) in
-      let held = and-split (holdsGood tray (turnDesk h)) (isNext h x) (not-false _ (silent .1 .1 .1 .1 .1 .0)) in
-      record {
-        is-sound = not-false (sound d) (silent .0);
-        tray-fits = eqb-true (length tray) (398 * h .n) (not-false _ (silent .1 .0));
-        elsewhere = silent .1 .1 .0;
-        not-last = silent .1 .1 .1 .0;
-        not-free = silent .1 .1 .1 .1 .0;
-        holds-good = held .0;
-        is-next = next-says h x (held .1);
-      }
+  take-allows tray silent = search (next-says, tested)
 
   pub take-if : (tray : List ℕ) → TakeAllowed tray → Silent (takeRules d tray)
   take-if tray a =

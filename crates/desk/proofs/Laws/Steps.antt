@@ -1,6 +1,7 @@
 -- Laws of the private parts of a step (specs/Parts.antt), one for each return of the functions that find them.
 --   waitings            a set for `search`: whether a read waits
 --   waits-are           `waitsFor` of a desk's head and pending kinds is `mustWait`
+--   ends-so             whether a read ends
 -- Assumes nothing.
 use Prim.Native.Nat.{ℕ, _+_, _-_, _<_, _≤_}
 use mathlib.Core.Path.{_≡_, refl}
@@ -15,7 +16,7 @@ use Rattle.cells.specs.Cells.{kindAt, filled, anywhere}
 use Rattle.sound.specs.declared.Head.{Head}
 use Rattle.sound.specs.Head.{ownTurn}
 use Rattle.desk.specs.declared.Desk.{Desk}
-use Rattle.desk.specs.Calls.{mustWait}
+use Rattle.desk.specs.Calls.{mustWait, nextHead, readEnds}
 use Rattle.desk.specs.Parts.{waitsFor, waitAt}
 
 module _ (on : Bool) (h : Head) (pkind : List ℕ) (cell : ℕ) where
@@ -62,6 +63,11 @@ module _ (wait cell : ℕ) {waits : Bool} where
   wait-stays e = rw e
 
 pub ruleset waits-at = (wait-here, wait-nowhere, wait-stays)
+
+-- ---- whether a read ends
+
+pub ends-so : (h : Head) {next : Head} {own : Bool} → next ≡ nextHead h 0 → own ≡ ownTurn next → not (eqb (h .wait) 0) && own ≡ readEnds h
+ends-so h n o = rw (o, n)
 
 -- ---- the rest of a slice, as the code lends it
 

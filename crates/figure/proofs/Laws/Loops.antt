@@ -17,7 +17,7 @@ use Rattle.content.specs.declared.Content.{Content}
 use Rattle.layout.specs.declared.Entry.{Entry}
 use Rattle.layout.specs.Layout.{contentIn}
 use Rattle.sheet.specs.Good.{every, nextAbove, rising, below}
-use Rattle.sheet.proofs.Laws.Bools.{and-split}
+use Rattle.numbers.proofs.Tests.{and-split, or-right, tested}
 use Rattle.cells.specs.Cells.{contentAt, blank, putIf}
 use Rattle.cells.proofs.Laws.{put-off, place-length}
 use Rattle.sound.specs.Head as head
@@ -40,8 +40,7 @@ pub absent : (c : ℕ) (es : List Entry) → nextAbove c es ≡ true → rising 
 absent c [] above rise = refl
 absent c (e ∷ es) above rise =
     let low : c < e .cell = ltb-true c (e .cell) above in
-    let tests = and-split (nextAbove (e .cell) es) (rising es) rise in
-    rw (ne-eqb c (e .cell) (λ z. omega arith)) (absent c es (lower es (tests .0)) (tests .1))
+    rw (ne-eqb c (e .cell) (λ z. omega arith)) (absent c es (lower es (search tested)) (search tested))
   where
     lower : (es : List Entry) → nextAbove (e .cell) es ≡ true → nextAbove c es ≡ true
     lower [] n = refl
@@ -79,12 +78,8 @@ module _ (d : Desk) where
   assigned-only-if x q (inl m) = false≢true (sym q ∙ rw (model-is-causal d m))
   assigned-only-if x q (inr e) = by-test (blank (d .pkind) x) refl
     where
-      or-false : (a b : Bool) → a || b ≡ false → b ≡ false
-      or-false true b z = absurd (false≢true (sym z))
-      or-false false b z = z
-
       by-test : (t : Bool) → blank (d .pkind) x ≡ t → ⊥
-      by-test true p = false≢true (sym (or-false (eqb (d .head .mode) 2) (blank (d .pkind) x) q) ∙ p)
+      by-test true p = false≢true (sym (or-right (eqb (d .head .mode) 2) (blank (d .pkind) x) q) ∙ p)
       by-test false p = Option·some-ne-none (contentAt (d .pkind) (d .pday) x) (sym (rw p) ∙ e)
 
   -- ---- the loop

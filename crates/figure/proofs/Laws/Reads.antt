@@ -3,18 +3,18 @@
 -- Assumes nothing.
 use Prim.Native.Nat.{ℕ, _+_, _-_}
 use mathlib.Core.Path.{_≡_, refl, sym, ap, _∙_, subst}
-use mathlib.Core.Bool.{Bool, true, false, cond, not, false≢true}
+use mathlib.Core.Bool.{Bool, true, false, cond, false≢true}
 use mathlib.Core.List.{List, []}
 use mathlib.Core.Option.{none, some, Option·some-ne-none}
 use native.Mathlib.Omega.{arith}
 use lib.Dec.{eqb}
-use borrow.Author.Tests.{eqb-false, ne-eqb, not-true}
+use borrow.Author.Tests.{ne-eqb}
 use Rattle.answer.specs.Answer.{Rule}
 use Rattle.answer.specs.Promises.{Silent}
 use Rattle.content.specs.declared.Content.{Content}
 use Rattle.cells.specs.Cells.{contentAt, blank, filled, anywhere}
-use Rattle.sheet.proofs.Laws.Bools.{and-split}
-use Rattle.sound.specs.Head.{ownTurn, turnDesk, readWaits}
+use Rattle.numbers.proofs.Tests.{tested}
+use Rattle.sound.specs.Head.{turnDesk, readWaits}
 use Rattle.desk.specs.declared.Desk.{Desk}
 use Rattle.desk.specs.Answers.{Value, holds, waits}
 use Rattle.desk.specs.Calls.{readRules, mustWait, waitingDesk, readOf}
@@ -58,14 +58,13 @@ module _ (d : Desk) (tray : List ℕ) (x : ℕ) where
   pub waits-only-if : mustWait d x ≡ true → Waits (d .head .n) (d .head .own) (modelOf (d .head .mode)) (processOf d tray) x
   unfolding mustWait
   waits-only-if e =
-      let last = and-split _ (not (ownTurn (d .head))) e in
-      let third = and-split _ (blank (d .pkind) x) (last .0) in
-      let first = and-split (eqb (d .head .mode) 1) (anywhere 64 (filled (d .pkind))) (third .0) in
+      let one : eqb (d .head .mode) 1 ≡ true = search tested in
+      let none-here : blank (d .pkind) x ≡ true = search tested in
       record {
-        is-sequential = rw (first .0);
-        some-updates = some-updates (d .pkind) (d .pday) (first .1);
-        none-of-x = rw (third .1);
-        elsewhere = eqb-false (turnDesk (d .head)) (d .head .own) (not-true _ (last .1));
+        is-sequential = rw one;
+        some-updates = some-updates (d .pkind) (d .pday) (search tested);
+        none-of-x = rw none-here;
+        elsewhere = search tested;
       }
 
   some-is : (processOf d tray .updates ≡ ∅ → ⊥) → anywhere 64 (filled (d .pkind)) ≡ true

@@ -2,21 +2,21 @@
 -- Assumes nothing.
 use Prim.Native.Nat.{ℕ, _+_, _%_, _<_, _≤_}
 use mathlib.Core.Path.{_≡_, refl, sym, _∙_, fun-ext, subst}
-use mathlib.Core.Bool.{Bool, true, false, cond, _&&_, false≢true}
+use mathlib.Core.Bool.{Bool, true, false, cond, false≢true}
 use mathlib.Core.List.{List, [], _∷_}
 use mathlib.Core.Option.{none, some}
 use native.Mathlib.Omega.{arith}
 use native.Mathlib.Nat.{mod-add-mod}
 use lib.Dec.{eqb}
 use lib.ListN.{length}
-use borrow.Author.Tests.{eqb-true, eqb-false, ltb-true, lt-ltb}
+use borrow.Author.Tests.{eqb-true, eqb-false, lt-ltb}
 use Rattle.content.specs.declared.Content.{Content}
 use Rattle.layout.specs.declared.Entry.{Entry}
 use Rattle.layout.specs.Layout.{trailerIn}
 use Rattle.layout.specs.Values.{AreBytes}
 use Rattle.layout.proofs.Laws.{entries-count}
-use Rattle.sheet.specs.Good.{good, every, rising, below, kindAndDay}
-use Rattle.sheet.proofs.Laws.Bools.{and-split}
+use Rattle.sheet.specs.Good.{good, every, rising, below}
+use Rattle.numbers.proofs.Tests.{tested}
 use Rattle.sheet.proofs.Laws.Good.{good-entries-are}
 use Rattle.cells.specs.Cells.{contentAt}
 use Rattle.sound.specs.Head.{causal, turnDesk, ownTurn, readWaits, waitCell}
@@ -42,21 +42,16 @@ use Rattle.figure.proofs.Laws.Maps.{same-process}
 below-more : (a b : ℕ) (es : List Entry) → a ≤ b → every (below a) es ≡ true → every (below b) es ≡ true
 below-more a b [] h e = refl
 below-more a b (x ∷ xs) h e =
-    let tests = and-split (below a x) (every (below a) xs) e in
-    let low : x .cell < a = ltb-true (x .cell) a (tests .0) in
-    rw (lt-ltb (x .cell) b (omega arith), below-more a b xs h (tests .1))
+    let low : x .cell < a = search tested in
+    rw (lt-ltb (x .cell) b (omega arith), below-more a b xs h (search tested))
 
 module _ (d : Desk) (tray : List ℕ) (s : Sound (d .head) (d .kind) (d .day) (d .pkind) (d .pday)) (is-good : good (sheetAt tray (turnDesk (d .head))) ≡ true)
     (cells : trailerIn (sheetAt tray (turnDesk (d .head))) .cells ≡ d .head .m) where
-  tests : (rising (entriesTaken d tray) && every (below (trailerIn (sheetAt tray (turnDesk (d .head))) .cells)) (entriesTaken d tray) ≡ true)
-      × (every kindAndDay (entriesTaken d tray) ≡ true)
-  tests = and-split _ _ (good-entries-are (sheetAt tray (turnDesk (d .head))) is-good)
-
   pub taken-rise : rising (entriesTaken d tray) ≡ true
-  taken-rise = and-split _ _ (tests .0) .0
+  taken-rise = search (good-entries-are (sheetAt tray (turnDesk (d .head))) is-good, tested)
 
   pub taken-below : every (below 64) (entriesTaken d tray) ≡ true
-  taken-below = below-more (trailerIn (sheetAt tray (turnDesk (d .head))) .cells) 64 (entriesTaken d tray) (omega (arith, cells, s .cells-most)) (and-split (rising (entriesTaken d tray)) _ (tests .0) .1)
+  taken-below = below-more (trailerIn (sheetAt tray (turnDesk (d .head))) .cells) 64 (entriesTaken d tray) (omega (arith, cells, s .cells-most)) (search (good-entries-are (sheetAt tray (turnDesk (d .head))) is-good, tested))
 
 -- ---- the process after the entries, and after the read that ends
 

@@ -5,12 +5,9 @@
 -- Assumes nothing.
 use Prim.Native.Nat.{ℕ, _+_, _-_, _<_}
 use mathlib.Core.Path.{_≡_, refl}
-use mathlib.Core.Bool.{Bool, true, false, cond, not}
+use mathlib.Core.Bool.{Bool, true, false, cond}
 use native.Mathlib.Omega.{arith}
-use borrow.Author.Tests.{eqb-true, eqb-false, not-true}
-use Rattle.sheet.proofs.Laws.Bools.{and-split}
-use Rattle.cells.specs.Cells.{blank, filled, anywhere}
-use Rattle.sound.specs.Head.{sequential, ownTurn, turnDesk}
+use Rattle.numbers.proofs.Tests.{tested}
 use Rattle.sound.proofs.Laws.Sound.{Waiting}
 use Rattle.desk.specs.declared.Desk.{Desk}
 use Rattle.desk.specs.Calls.{sound, readRules, mustWait, waitingDesk, readOf}
@@ -24,16 +21,13 @@ module _ (d : Desk) (cell : ℕ) where
   pub wait-says : mustWait d cell ≡ true → cell < d .head .m → Waiting (waitingDesk d cell .head) (d .pkind)
   unfolding mustWait
   wait-says e low =
-      let last = and-split _ (not (ownTurn (d .head))) e in
-      let third = and-split _ (blank (d .pkind) cell) (last .0) in
-      let first = and-split (sequential (d .head)) (anywhere 64 (filled (d .pkind))) (third .0) in
       let back : cell + 1 - 1 ≡ cell = omega arith in
       record {
-        mode-is = eqb-true _ _ (first .0);
+        mode-is = search tested;
         cell-below = omega arith;
-        cell-blank = rw back (eqb-true _ _ (third .1));
-        something = first .1;
-        elsewhere = eqb-false (turnDesk (d .head)) (d .head .own) (not-true _ (last .1));
+        cell-blank = rw back (search tested);
+        something = search tested;
+        elsewhere = search tested;
       }
 
   -- the record after a read that was carried out, whether it waits or not

@@ -11,7 +11,7 @@
 -- Assumes nothing.
 use Prim.Native.Nat.{ℕ, zero, suc, _+_, _%_, _≤_, _<_}
 use mathlib.Core.Path.{_≡_, refl, sym, _∙_, subst}
-use mathlib.Core.Bool.{Bool, true, false, cond, _&&_, _||_, false≢true}
+use mathlib.Core.Bool.{Bool, true, false, cond, _&&_, or-false, false≢true}
 use mathlib.Core.List.{List, [], _∷_}
 use native.Mathlib.Omega.{arith}
 use lib.Dec.{eqb}
@@ -25,8 +25,8 @@ use Rattle.layout.specs.declared.Entry.{Entry}
 use Rattle.layout.specs.Layout.{entryOf, entriesOf, trailerIn}
 use Rattle.layout.specs.Values.{AreBytes}
 use Rattle.layout.proofs.Bytes.{front-bytes, back-bytes}
-use Rattle.sheet.specs.Good.{every, rising, below, kindAndDay}
-use Rattle.sheet.proofs.Laws.Bools.{and-split}
+use Rattle.sheet.specs.Good.{every, below, kindAndDay}
+use Rattle.numbers.proofs.Tests.{tested}
 use Rattle.sheet.proofs.Laws.Good.{good-entries-are}
 use Rattle.cells.specs.Cells.{kindAt, dayAt, putIf}
 use Rattle.cells.proofs.Laws.{place-put, place-kept, place-length}
@@ -83,17 +83,13 @@ module _ (P : ℕ → ℤ → Type 0) (going : Entry → Bool) (i : ℕ) (room :
 kind-of : (e : Entry) → kindAndDay e ≡ true → (e .kind ≤ 2) × (e .kind ≡ 0 → ⊥) × (dayFits (kindOn e) (dayOn e) ≡ true)
 kind-of e g = by-test (eqb (e .kind) 2) refl
   where
-    first : (a b : Bool) → a && b || false ≡ true → (a ≡ true) × (b ≡ true)
-    first true true p = (refl, refl)
-    first true false p = absurd (false≢true p)
-    first false b p = absurd (false≢true p)
-
     by-test : (t : Bool) → eqb (e .kind) 2 ≡ t → (e .kind ≤ 2) × (e .kind ≡ 0 → ⊥) × (dayFits (kindOn e) (dayOn e) ≡ true)
     by-test true p = let two = eqb-true (e .kind) 2 p in (omega arith, λ z. omega (arith, z), rw p)
     by-test false p =
-        let parts = first (eqb (e .kind) 1) (eqb (e .day) 0) (rw p at g) in
-        let one = eqb-true (e .kind) 1 (parts .0) in
-        (omega arith, λ z. omega (arith, z), rw (p, eqb-true (e .day) 0 (parts .1)))
+        let open-so : eqb (e .kind) 1 && eqb (e .day) 0 ≡ true = sym (or-false _) ∙ (rw p at g) in
+        let one : e .kind ≡ 1 = search tested in
+        let zero-day : e .day ≡ 0 = search tested in
+        (omega arith, λ z. omega (arith, z), rw (p, zero-day))
 
 module _ (h : Head) (pkind : List ℕ) (i : ℕ) (k : ℕ) (d : ℤ) (q : ℤ) (before : FairPlace (h .m) (h .mode) i k d (kindAt pkind i) q) where
   -- an entry that goes to a cell goes there in causal mode, or the cell is not pending
@@ -119,9 +115,7 @@ module _ (h : Head) (pkind : List ℕ) (i : ℕ) (k : ℕ) (d : ℤ) (q : ℤ) (
       → Every (λ e. goes (causal h) pkind e ≡ true → e .cell ≡ i → FairPlace (h .m) (h .mode) i (kindOn e) (dayOn e) (kindAt pkind i) q) es
   entries-are [] low fine = tt
   entries-are (e ∷ es) low fine =
-      let lows = and-split (below (h .m) e) (every (below (h .m)) es) low in
-      let fines = and-split (kindAndDay e) (every kindAndDay es) fine in
-      (entry-is e (lows .0) (fines .0), entries-are es (lows .1) (fines .1))
+      (entry-is e (search tested) (search tested), entries-are es (search tested) (search tested))
 
 -- ---- the waiting read
 
@@ -159,12 +153,12 @@ module _ (d : Desk) (tray : List ℕ) where
       kept (λ (x : Desk). sound x ≡ true) (takeRules d tray) d after e
       (λ silent.
       let allowed = take-allows d tray silent in
-      let tests = and-split _ _ (good-entries-are (sheetAt tray q) (holds-says tray q (allowed .holds-good) .sheet-good)) in
-      let low : every (below (h .m)) es ≡ true = rw (allowed .is-next .cells) at (and-split (rising es) _ (tests .0) .1) in
+      let tests = good-entries-are (sheetAt tray q) (holds-says tray q (allowed .holds-good) .sheet-good) in
+      let low : every (below (trailerIn (sheetAt tray q) .cells)) es ≡ true = search tested in
       sound-by-places (after .head) (after .kind) (after .day) (after .pkind) (after .pday) (numbers-are s)
       (λ i b.
       laid-place (λ (k : ℕ) (x : ℤ). FairPlace (h .m) (h .mode) i k x (kindAt (d .pkind) i) (dayAt (d .pday) i)) (goes (causal h) (d .pkind)) i b (d .kind) (d .day) es (fits .kinds) (fits .days)
-      (entries-are h (d .pkind) i (kindAt (d .kind) i) (dayAt (d .day) i) (dayAt (d .pday) i) (place-is s i b) es low (tests .1))
+      (entries-are h (d .pkind) i (kindAt (d .kind) i) (dayAt (d .day) i) (dayAt (d .pday) i) (place-is s i b) es (rw (allowed .is-next .cells) at low) (search tested))
       (place-is s i b))
       (waits-after h (d .pkind) (s .waits) (readEnds h) refl))
 

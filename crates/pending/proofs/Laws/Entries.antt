@@ -4,13 +4,14 @@
 --   pending-length, pending-most                  as many entries as filled places, 64 at most
 -- Assumes nothing.
 use mathlib.Core.Path.{_≡_, refl, sym, ap, _∙_}
-use mathlib.Core.Bool.{Bool, true, false, cond, _||_, false≢true}
+use mathlib.Core.Bool.{Bool, true, false, cond}
 use mathlib.Core.List.{List, [], _∷_, _++_, append-assoc, append-nil}
 use Prim.Native.Nat.{ℕ, zero, suc, _+_, _-_, _≤_}
 use native.Mathlib.Omega.{arith}
 use native.Mathlib.Nat.{zero-add, add-zero, add-suc}
 use lib.IntN.{ℤ}
 use lib.ListN.{length, length-append}
+use Rattle.numbers.proofs.Tests.{tested}
 use Rattle.cells.specs.Cells.{filled, count}
 use Rattle.cells.proofs.Laws.{count-within}
 use Rattle.layout.specs.declared.Entry.{Entry}
@@ -49,10 +50,6 @@ module _ (pkind : List ℕ) (pday : List ℤ) where
 
   -- ---- none of eight
 
-  neither : (a b : Bool) → a || b ≡ false → (a ≡ false) × (b ≡ false)
-  neither true b e = absurd (false≢true (sym e))
-  neither false b e = (refl, e)
-
   none-at : (i : ℕ) → filled pkind i ≡ false → pendingAt pkind pday i ≡ []
   unfolding pendingAt
   none-at i e = rw e
@@ -60,14 +57,7 @@ module _ (pkind : List ℕ) (pday : List ℤ) where
   pub none-of-eight : (from : ℕ) → someOfEight pkind from ≡ false → pendingFrom pkind pday from 8 ≡ []
   unfolding pendingFrom
   none-of-eight from e =
-      let halves = neither _ _ e in
-      let ab-cd = neither _ _ (halves .0) in
-      let ef-gh = neither _ _ (halves .1) in
-      let ab = neither _ _ (ab-cd .0) in
-      let cd = neither _ _ (ab-cd .1) in
-      let ef = neither _ _ (ef-gh .0) in
-      let gh = neither _ _ (ef-gh .1) in
-      rw (add-zero from, none-at from (ab .0), none-at (from + 1) (ab .1), none-at (from + 2) (cd .0), none-at (from + 3) (cd .1), none-at (from + 4) (ef .0), none-at (from + 5) (ef .1), none-at (from + 6) (gh .0), none-at (from + 7) (gh .1))
+      rw (add-zero from, none-at from (search tested), none-at (from + 1) (search tested), none-at (from + 2) (search tested), none-at (from + 3) (search tested), none-at (from + 4) (search tested), none-at (from + 5) (search tested), none-at (from + 6) (search tested), none-at (from + 7) (search tested))
 
   -- ---- how many
 

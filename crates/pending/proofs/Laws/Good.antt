@@ -18,6 +18,7 @@ use mir.Val.{SFits}
 use mir.Facts.{fits-ofZ}
 use borrow.Author.Tests.{lt-ltb, le-leb, eq-eqb, ltb-false, eqb-true, eqb-false, not-true}
 use Rattle.answer.specs.Answer.{answered}
+use Rattle.numbers.proofs.Tests.{tested}
 use Rattle.cells.specs.Cells.{kindAt, dayAt, filled}
 use Rattle.sound.specs.declared.Head.{Head}
 use Rattle.layout.specs.declared.Entry.{Entry}
@@ -28,7 +29,6 @@ use Rattle.layout.proofs.Laws.{TrailerFits, entries-back, trailer-back}
 use Rattle.sheet.specs.Good.{every, rising, below, kindAndDay, good}
 use Rattle.sheet.specs.Clauses.{goodTrailer, goodEntries}
 use Rattle.sheet.specs.Reading.{sheetIn, readingOf}
-use Rattle.sheet.proofs.Laws.Bools.{and-split}
 use Rattle.sheet.proofs.Laws.Good.{sheet-good}
 use Rattle.sheet.proofs.Laws.Reading.{good-read}
 use Rattle.pending.specs.Pending.{entryIn, pendingBelow, pendingEntries, numbersFor, sheetOf}
@@ -38,15 +38,14 @@ use Rattle.pending.proofs.Laws.Entries.{pending-most}
 
 every-behind : (p : Entry → Bool) (es fs : List Entry) → every p es ≡ true → every p fs ≡ true → every p (es ++ fs) ≡ true
 every-behind p [] fs a b = b
-every-behind p (e ∷ es) fs a b = let parts = and-split (p e) (every p es) a in rw (parts .0) (every-behind p es fs (parts .1) b)
+every-behind p (e ∷ es) fs a b = let here : p e ≡ true = search tested in rw here (every-behind p es fs (search tested) b)
 
 rising-behind : (es : List Entry) (e : Entry) → rising es ≡ true → every (below (e .cell)) es ≡ true → rising (es ++ (e ∷ [])) ≡ true
 rising-behind [] e r b = refl
-rising-behind (x ∷ []) e r b = rw (and-split (below (e .cell) x) true b .0)
+rising-behind (x ∷ []) e r b = let under : below (e .cell) x ≡ true = search tested in rw under
 rising-behind (x ∷ y ∷ es) e r b =
-    let rises = and-split (ltb (x .cell) (y .cell)) (rising (y ∷ es)) r in
-    let belows = and-split (below (e .cell) x) (every (below (e .cell)) (y ∷ es)) b in
-    rw (rises .0) (rising-behind (y ∷ es) e (rises .1) (belows .1))
+    let rise : ltb (x .cell) (y .cell) ≡ true = search tested in
+    rw rise (rising-behind (y ∷ es) e (search tested) (search tested))
 
 days-behind : {es fs : List Entry} → DaysFit es → DaysFit fs → DaysFit (es ++ fs)
 days-behind no-days g = g

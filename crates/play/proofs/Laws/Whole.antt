@@ -5,14 +5,14 @@
 -- Assumes nothing.
 use Prim.Native.Nat.{ℕ, _+_, _-_, _<_, _≤_}
 use mathlib.Core.Path.{_≡_, refl, sym, ap, _∙_, subst}
-use mathlib.Core.Bool.{Bool, true, false, cond, _||_, false≢true}
+use mathlib.Core.Bool.{Bool, true, false, cond, false≢true}
 use mathlib.Core.List.{List, [], _∷_, _++_}
 use mathlib.Core.Option.{Option}
 use native.Mathlib.Omega.{arith}
-use lib.Dec.{eqb, ltb}
+use lib.Dec.{eqb}
 use lib.ListN.{length, take, drop, length-append}
 use lib.Seq.{length-take-le}
-use borrow.Author.Tests.{ltb-false, eq-eqb}
+use borrow.Author.Tests.{eq-eqb}
 use Rattle.laying.specs.Laying.{laidOver}
 use Rattle.laying.proofs.Laws.{laid-behind}
 use Rattle.tray.proofs.Laws.Parts.{laid-long}
@@ -29,16 +29,13 @@ use Rattle.schedule.specs.declared.Start.the-variants as cases
 use Rattle.schedule.proofs.Laws.Lines.{no-lines}
 use Rattle.printing.specs.Printing.{wrote, headerText}
 use Rattle.answer.specs.Answer.{accepted}
+use Rattle.numbers.proofs.Tests.{tested}
 use Rattle.play.specs.Rounds.{tooLong, opens, badStart, runText, linesText, printed, Prints}
 use Rattle.play.specs.Parts.Running.{Runs, runOf, Ran, modeInForce, ShelfPlays, shelfText}
 use Rattle.play.proofs.Laws.Lines.{ended-here, cut-here}
 use Rattle.play.proofs.Laws.Playing.{line-laid, line-end}
 
 -- ---- a shelf whose desks can be opened
-
-or-split : (a b : Bool) → a || b ≡ false → (a ≡ false) × (b ≡ false)
-or-split true b e = absurd (false≢true (sym e))
-or-split false b e = (refl, e)
 
 pub opens-says : (n m mode : ℕ) → opens (record { n = n; m = m; mode = mode }) ≡ true → OpenAllowed n m 0 mode
 unfolding openOf
@@ -149,11 +146,11 @@ module _ (input out : List ℕ) (long : length out ≡ 64064) where
 
       few-bytes : length input ≤ 16384
       unfolding tooLong
-      few-bytes = ltb-false 16384 (length input) (or-split (ltb 16384 (length input)) (ltb 1001 (length (linesOf input))) (sym test-is ∙ off) .0)
+      few-bytes = search (sym test-is ∙ off, tested)
 
       few-lines : length (linesOf input) ≤ 1001
       unfolding tooLong
-      few-lines = ltb-false 1001 (length (linesOf input)) (or-split (ltb 16384 (length input)) (ltb 1001 (length (linesOf input))) (sym test-is ∙ off) .1)
+      few-lines = search (sym test-is ∙ off, tested)
 
       module _ (end : ℕ) (ends : end ≡ 0 + length (firstPart lineFeed (drop 0 input))) where
         pub played-cut : length input ≤ end → (out′ : List ℕ) → out′ ≡ laidOver out 0 (text "bad start\n") → (r : ℕ) → r ≡ length (text "bad start\n") → Prints (printed input) out out′ r

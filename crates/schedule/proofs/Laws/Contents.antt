@@ -23,7 +23,7 @@ use Rattle.numbers.specs.Limits.{within}
 use Rattle.text.specs.declared.Decimal.{Decimal}
 use Rattle.text.specs.Separated.{firstPart, space}
 use Rattle.text.specs.Decimal.{isDecimal, valueFrom, value, beyond, decimalAt}
-use Rattle.text.proofs.Laws.Decimal.{and-split}
+use Rattle.numbers.proofs.Tests.{tested}
 use Rattle.text.proofs.Laws.Parts.{empty, part-room, part-goes-on, part-on}
 use Rattle.schedule.specs.declared.words.Given.{Given}
 use Rattle.schedule.specs.Words.{same, is, isDayWord, dayOfWord, isContentWord, contentOfWord}
@@ -91,14 +91,11 @@ pub ruleset opens-read = (first-place, second-place, third-place, fourth-place, 
 
 -- what the tests leave to know of a value: rules for `omega`
 module _ (a : Bool) (least v most : ℕ) (t : a && within least most v ≡ true) where
-  both : (leb least v ≡ true) × (leb v most ≡ true)
-  both = and-split (leb least v) (leb v most) (and-split a (within least most v) t .1)
-
   pub least-within : least ≤ v
-  least-within = leb-true least v (both .0)
+  least-within = search tested
 
   pub most-within : v ≤ most
-  most-within = leb-true v most (both .1)
+  most-within = search tested
 
 module _ (d : Decimal) where
   module _ (t : d .ok && within 1 2147483648 (d .value) ≡ true) where

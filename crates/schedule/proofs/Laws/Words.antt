@@ -22,7 +22,7 @@ use borrow.Author.Tests.{ltb-true, ltb-false, leb-true, leb-false, le-leb, lt-le
 use Rattle.text.specs.declared.Decimal.{Decimal}
 use Rattle.text.specs.Separated.{firstPart, space}
 use Rattle.text.specs.Decimal.{isDecimal, value, beyond, decimalAt}
-use Rattle.text.proofs.Laws.Decimal.{and-split}
+use Rattle.numbers.proofs.Tests.{tested}
 use Rattle.text.proofs.Laws.Parts.{empty, part-room, part-goes-on}
 use Rattle.schedule.specs.declared.words.Number.{Number}
 use Rattle.schedule.specs.declared.words.Letter.{Letter}
@@ -49,7 +49,7 @@ capped-test v k h = by-test (leb v k) refl
 
 -- what a test leaves to know of a value: a rule for `omega`
 pub most-of : (a : Bool) (v most : ℕ) → a && leb v most ≡ true → v ≤ most
-most-of a v most t = leb-true v most (and-split a (leb v most) t .1)
+most-of a v most t = search tested
 
 module _ (line : List ℕ) (from : ℕ) (d : Decimal) (is : d ≡ decimalAt space line from) where
   ends : d .end ≡ from + length (wordAt line from)

@@ -9,14 +9,14 @@
 -- Assumes nothing.
 use mathlib.Core.Path.{_≡_, refl, sym, ap, _∙_}
 use mathlib.Core.List.{List, [], _∷_}
-use mathlib.Core.Bool.{Bool, true, false, _&&_, _||_, and-true, and-assoc, false≢true}
-use Prim.Native.Nat.{ℕ, zero, suc, _+_, _*_, _-_, _%_, _<_, _≤_}
+use mathlib.Core.Bool.{Bool, true, false, _&&_, and-true, and-assoc, or-false, false≢true}
+use Prim.Native.Nat.{ℕ, suc, _+_, _*_, _-_, _%_, _<_, _≤_}
 use native.Mathlib.Omega.{arith}
 use native.Mathlib.Numerals.{add-one}
 use lib.ListN.{length, getD, drop, drop-of-length-le}
 use lib.Seq.{drop-cons}
 use lib.Dec.{eqb, leb, ltb}
-use borrow.Author.Tests.{le-leb, lt-leb, eqb-true, leb-true, leb-false, ltb-true}
+use borrow.Author.Tests.{le-leb, lt-leb, eqb-true, leb-true, leb-false}
 use mir.Syntax.{w32}
 use mir.Val.{toZ}
 use Rattle.content.specs.Content.{contentOf}
@@ -24,13 +24,14 @@ use Rattle.layout.specs.declared.Entry.{Entry}
 use Rattle.layout.specs.declared.Trailer.{Trailer}
 use Rattle.layout.specs.Layout.{trailerBytes, sheetBytes, entryOf, entriesOf, trailerIn}
 use Rattle.numbers.specs.Limits.{desksWithin, cellsWithin}
+use Rattle.numbers.proofs.Tests.{and-split, tested}
 use Rattle.sheet.specs.Good.{every, nextAbove, rising, below, kindAndDay, good}
 use Rattle.sheet.specs.Promises.{OpenOrDay, is-open, is-day}
 use Rattle.layout.specs.Values.{DaysFit}
 use Rattle.sheet.specs.Reading.{noEntry}
 use Rattle.sheet.specs.Promises.{GoodWithin}
 use Rattle.sheet.specs.Clauses.{goodTrailer, goodEntry, goodEntries}
-use Rattle.sheet.proofs.Laws.Bools.{and-split, in-any-order}
+use Rattle.sheet.proofs.Laws.Bools.{in-any-order}
 use Rattle.layout.proofs.Laws.{entry-of-entries, entries-count, sheet-length, TrailerFits, entries-back, trailer-back}
 
 -- ---- the entries, as a loop goes
@@ -134,30 +135,7 @@ pub record FairTrailer (t : Trailer) (back : ℕ) : Type 0 where
   pub turn-leaves : t .turn % t .desks ≡ t .sender
 
 pub fair-trailer : (t : Trailer) (back : ℕ) → goodTrailer t back ≡ true → FairTrailer t back
-fair-trailer t back e =
-    let turn = and-split _ _ e in
-    let zeros = and-split _ _ (turn .0) in
-    let sender = and-split _ _ (zeros .0) in
-    let limits = and-split _ _ (sender .0) in
-    let distance = and-split _ _ (limits .0) in
-    let desks-cells = and-split _ _ (limits .1) in
-    let desks = and-split _ _ (desks-cells .0) in
-    let cells = and-split _ _ (desks-cells .1) in
-    let zero = and-split _ _ (zeros .1) in
-    let end = and-split _ _ (turn .1) in
-    record {
-      distance-is-entries = eqb-true _ _ (distance .0);
-      distance-is-back = eqb-true _ _ (distance .1);
-      desks-least = leb-true _ _ (desks .0);
-      desks-most = leb-true _ _ (desks .1);
-      cells-least = leb-true _ _ (cells .0);
-      cells-most = leb-true _ _ (cells .1);
-      sender-below = ltb-true _ _ (sender .1);
-      zero6-is = eqb-true _ _ (zero .0);
-      zero7-is = eqb-true _ _ (zero .1);
-      turn-most = leb-true _ _ (end .0);
-      turn-leaves = eqb-true _ _ (end .1);
-    }
+fair-trailer t back e = search tested depth 9
 
 -- ---- good sheets
 
@@ -186,12 +164,9 @@ module _ (s : List ℕ) (g : good s ≡ true) where
 from-few : (cells least : ℕ) (es : List Entry) → goodFrom cells least es ≡ true → length es ≤ cells - least
 from-few cells least [] g = omega arith
 from-few cells least (e ∷ es) g =
-    let one = and-split (goodEntry cells least e) (goodFrom cells (e .cell + 1) es) g in
-    let here = and-split (leb least (e .cell) && below cells e) (kindAndDay e) (one .0) in
-    let place = and-split (leb least (e .cell)) (below cells e) (here .0) in
-    let low : least ≤ e .cell = leb-true least (e .cell) (place .0) in
-    let high : e .cell < cells = ltb-true (e .cell) cells (place .1) in
-    omega (arith, from-few cells (e .cell + 1) es (one .1))
+    let low : least ≤ e .cell = search tested in
+    let high : e .cell < cells = search tested in
+    omega (arith, from-few cells (e .cell + 1) es (search tested))
 
 pub few-entries : (cells : ℕ) (es : List Entry) → goodEntries cells es ≡ true → length es ≤ cells
 few-entries cells es g =
@@ -229,12 +204,9 @@ module _ (es : List Entry) (t : Trailer) (tf : TrailerFits t) where
 pub open-or-day : (e : Entry) → kindAndDay e ≡ true → OpenOrDay e
 open-or-day e g = by-kind (eqb (e .kind) 2) refl
   where
-    not-two : (a b : Bool) → a && b || false ≡ true → a ≡ true
-    not-two true b p = refl
-    not-two false b p = absurd (false≢true p)
-
     by-kind : (t : Bool) → eqb (e .kind) 2 ≡ t → OpenOrDay e
     by-kind true p = let k : e .kind ≡ 2 = eqb-true (e .kind) 2 p in is-day k (ap (λ (x : ℕ). contentOf x (toZ w32 (e .day))) k)
     by-kind false p =
-        let k : e .kind ≡ 1 = eqb-true (e .kind) 1 (not-two (eqb (e .kind) 1) (eqb (e .day) 0) (rw p at g)) in
+        let one : eqb (e .kind) 1 && eqb (e .day) 0 ≡ true = sym (or-false _) ∙ (rw p at g) in
+        let k : e .kind ≡ 1 = search tested in
         is-open k (ap (λ (x : ℕ). contentOf x (toZ w32 (e .day))) k)

@@ -24,7 +24,7 @@ use Rattle.sheet.specs.Good.{every, nextAbove, rising, below, kindAndDay
 use Rattle.sheet.specs.Clauses.{goodTrailer, goodEntries}
 use Rattle.sheet.specs.Reading.{Sheet, sheetIn, readingOf, saidRead, noEntry, entryAt}
 use Rattle.sheet.specs.Promises.{GoodEntry, EntriesStand, EntriesInPlace, ReadingsApart}
-use Rattle.sheet.proofs.Laws.Bools.{and-split}
+use Rattle.numbers.proofs.Tests.{tested}
 use Rattle.layout.proofs.Laws.{entries-count, entry-of-entries}
 use Rattle.sheet.proofs.Laws.Good.{good-is, too-short-is-bad, fair-trailer, good-length, good-entries-are, open-or-day}
 
@@ -91,20 +91,19 @@ entry-in-place s g k h =
 -- a test of every entry, at one of them
 at-entry : (p : Entry → Bool) (es : List Entry) (k : ℕ) → k < length es → every p es ≡ true → p (getD es k noEntry) ≡ true
 at-entry p [] k h g = absurd (not-suc-le-zero h)
-at-entry p (e ∷ es) zero h g = and-split (p e) (every p es) g .0
-at-entry p (e ∷ es) (suc k) h g = at-entry p es k (le-of-suc-le-suc h) (and-split (p e) (every p es) g .1)
+at-entry p (e ∷ es) zero h g = search tested
+at-entry p (e ∷ es) (suc k) h g = at-entry p es k (le-of-suc-le-suc h) (search tested)
 
 good-one : (s : List ℕ) → good s ≡ true → (k : ℕ) → k < trailerIn s .entries → GoodEntry (trailerIn s .cells) (entryAt s k)
 good-one s g k h =
     let t = trailerIn s in
     let es = entriesOf (t .entries) s in
-    let tests = and-split (rising es && every (below (t .cells)) es) (every kindAndDay es) (good-entries-are s g) in
-    let lows = and-split (rising es) (every (below (t .cells)) es) (tests .0) .1 in
+    let tests = good-entries-are s g in
     let long : k < length es = omega (arith, entries-count (t .entries) s) in
     subst⁻¹ (GoodEntry (t .cells)) (entry-in-place s g k h)
     (record {
-      cell-below = ltb-true _ _ (at-entry (below (t .cells)) es k long lows);
-      open-or-day = open-or-day (getD es k noEntry) (at-entry kindAndDay es k long (tests .1));
+      cell-below = ltb-true _ _ (at-entry (below (t .cells)) es k long (search tested));
+      open-or-day = open-or-day (getD es k noEntry) (at-entry kindAndDay es k long (search tested));
     })
 
 -- cells that rise strictly from one entry to the next do so from any entry to any later one
@@ -112,26 +111,21 @@ all-above : (c : ℕ) (es : List Entry) (k : ℕ) → k < length es → nextAbov
 all-above c [] k h n r = absurd (not-suc-le-zero h)
 all-above c (e ∷ es) zero h n r = ltb-true c (e .cell) n
 all-above c (e ∷ es) (suc k) h n r =
-    let tests = and-split (nextAbove (e .cell) es) (rising es) r in
     let first : c < e .cell = ltb-true c (e .cell) n in
-    let later = all-above (e .cell) es k (le-of-suc-le-suc h) (tests .0) (tests .1) in
+    let later = all-above (e .cell) es k (le-of-suc-le-suc h) (search tested) (search tested) in
     omega arith
 
 rise-from : (es : List Entry) (j k : ℕ) → j < k → k < length es → rising es ≡ true → getD es j noEntry .cell < getD es k noEntry .cell
 rise-from [] j k l h r = absurd (not-suc-le-zero h)
 rise-from (e ∷ es) j zero l h r = absurd (not-suc-le-zero l)
-rise-from (e ∷ es) zero (suc k) l h r =
-    let tests = and-split (nextAbove (e .cell) es) (rising es) r in
-    all-above (e .cell) es k (le-of-suc-le-suc h) (tests .0) (tests .1)
-rise-from (e ∷ es) (suc j) (suc k) l h r =
-    rise-from es j k (le-of-suc-le-suc l) (le-of-suc-le-suc h) (and-split (nextAbove (e .cell) es) (rising es) r .1)
+rise-from (e ∷ es) zero (suc k) l h r = all-above (e .cell) es k (le-of-suc-le-suc h) (search tested) (search tested)
+rise-from (e ∷ es) (suc j) (suc k) l h r = rise-from es j k (le-of-suc-le-suc l) (le-of-suc-le-suc h) (search tested)
 
 rise : (s : List ℕ) → good s ≡ true → (j k : ℕ) → j < k → k < trailerIn s .entries → entryAt s j .cell < entryAt s k .cell
 rise s g j k l h =
     let t = trailerIn s in
     let es = entriesOf (t .entries) s in
-    let lows = and-split (rising es && every (below (t .cells)) es) (every kindAndDay es) (good-entries-are s g) .0 in
-    let rises = and-split (rising es) (every (below (t .cells)) es) lows .0 in
+    let rises : rising es ≡ true = search (good-entries-are s g, tested) in
     let before : j < t .entries = omega arith in
     let apart = rise-from es j k l (omega (arith, entries-count (t .entries) s)) rises in
     subst₂ (λ (a b : Entry). a .cell < b .cell) (sym (entry-in-place s g j before)) (sym (entry-in-place s g k h)) apart

@@ -4,16 +4,17 @@
 -- Assumes nothing.
 use Prim.Native.Nat.{ℕ, _-_, _%_, _≤_, _<_}
 use mathlib.Core.Path.{_≡_, refl, ap}
-use mathlib.Core.Bool.{Bool, true, false, not, _&&_, false≢true, and-eq-true-iff}
+use mathlib.Core.Bool.{Bool, true, false, not, _&&_, false≢true}
 use mathlib.Core.List.{List}
 use lib.Dec.{eqb, leb}
 use lib.IntN.{ℤ}
-use borrow.Author.Tests.{leb-true, ltb-true, eqb-true, eqb-false, le-leb, lt-ltb, eq-eqb, ne-eqb, not-true}
-use Rattle.cells.specs.Cells.{kindAt, dayAt, filled, anywhere}
+use borrow.Author.Tests.{leb-true, eqb-false, le-leb, lt-ltb, eq-eqb, ne-eqb, not-true}
+use Rattle.numbers.proofs.Tests.{tested}
+use Rattle.cells.specs.Cells.{kindAt, dayAt, filled, each, anywhere}
 use Rattle.cells.proofs.Laws.{each-at, each-if}
 use Rattle.sound.specs.declared.Head.{Head}
 use Rattle.sound.specs.Head.{causal, readWaits}
-use Rattle.sound.specs.Sound.{isKind, dayFits, _implies_, soundOf}
+use Rattle.sound.specs.Sound.{dayFits, _implies_, soundOf}
 use Rattle.sound.proofs.Laws.Days.{same-day, same-day-if}
 
 -- a waiting read "has mode 1, a cell below m that is not pending, something pending, and the turn elsewhere"
@@ -48,16 +49,16 @@ pub record Sound (h : Head) (kind : List ℕ) (day : List ℤ) (pkind : List ℕ
 
 -- ---- tests and what they say
 
-then : (a b : Bool) → (a implies b) ≡ true → a ≡ true → b ≡ true
-then true b e p = e
-then false b e p = absurd (false≢true p)
+at-place : (i : ℕ) → i < 64 → (p : ℕ → Bool) → each 64 p ≡ true → p i ≡ true
+at-place i b p e = each-at 64 p e i b
+
+holds : {a : Bool} → a ≡ true → (b : Bool) → (a implies b) ≡ true → b ≡ true
+holds {a = true} p b e = e
+holds {a = false} p b e = absurd (false≢true p)
 
 then-if : (a b : Bool) → (a ≡ true → b ≡ true) → (a implies b) ≡ true
 then-if true b f = f refl
 then-if false b f = refl
-
-and-split : (a b : Bool) → a && b ≡ true → (a ≡ true) × (b ≡ true)
-and-split a b = and-eq-true-iff a b .0
 
 infixl 35 _and_
 _and_ : {a b : Bool} → a ≡ true → b ≡ true → a && b ≡ true
@@ -75,52 +76,23 @@ module _ {h : Head} {kind : List ℕ} {day : List ℤ} {pkind : List ℕ} {pday 
   pub sound-says : soundOf h kind day pkind pday ≡ true → Sound h kind day pkind pday
   unfolding soundOf
   sound-says e =
-      let wait = and-split _ _ e in
-      let agree = and-split _ _ (wait .0) in
-      let shown = and-split _ _ (agree .0) in
-      let blanks = and-split _ _ (shown .0) in
-      let days = and-split _ _ (blanks .0) in
-      let kinds = and-split _ _ (days .0) in
-      let mode = and-split _ _ (kinds .0) in
-      let own = and-split _ _ (mode .0) in
-      let desks-cells = and-split _ _ (own .0) in
-      let desks = and-split _ _ (desks-cells .0) in
-      let cells = and-split _ _ (desks-cells .1) in
-      let modes = and-split _ _ (mode .1) in
       record {
-        desks-least = leb-true _ _ (desks .0);
-        desks-most = leb-true _ _ (desks .1);
-        cells-least = leb-true _ _ (cells .0);
-        cells-most = leb-true _ _ (cells .1);
-        own-below = ltb-true _ _ (own .1);
-        mode-least = leb-true _ _ (modes .0);
-        mode-most = leb-true _ _ (modes .1);
-        kind-is = λ i b. leb-true _ _ (and-split (isKind (kindAt kind i)) _ (each-at 64 _ (kinds .1) i b) .0);
-        pkind-is = λ i b. leb-true _ _ (and-split (isKind (kindAt kind i)) _ (each-at 64 _ (kinds .1) i b) .1);
-        day-fits = λ i b. and-split (dayFits (kindAt kind i) (dayAt day i)) _ (each-at 64 _ (days .1) i b) .0;
-        pday-fits = λ i b. and-split (dayFits (kindAt kind i) (dayAt day i)) _ (each-at 64 _ (days .1) i b) .1;
-        blank-past =
-            λ i b l.
-            let z = and-split _ _ (then _ _ (each-at 64 _ (blanks .1) i b) (le-leb (h .m) i l)) in
-            (eqb-true _ _ (z .0), eqb-true _ _ (z .1));
-        pending-shown = λ i b f. not-eqb _ _ (then _ _ (each-at 64 _ (shown .1) i b) (not-eqb-if (kindAt pkind i) 0 f));
+        desks-least = search tested depth 12;
+        desks-most = search tested depth 12;
+        cells-least = search tested depth 12;
+        cells-most = search tested depth 12;
+        own-below = search tested depth 12;
+        mode-least = search tested depth 12;
+        mode-most = search tested depth 12;
+        kind-is = λ i b. search (at-place i b, tested) depth 12;
+        pkind-is = λ i b. search (at-place i b, tested) depth 12;
+        day-fits = λ i b. search (at-place i b, tested) depth 12;
+        pday-fits = λ i b. search (at-place i b, tested) depth 12;
+        blank-past = λ i b l. search (at-place i b, holds (le-leb (h .m) i l), tested) depth 12;
+        pending-shown = λ i b f. search (at-place i b, holds (not-eqb-if (kindAt pkind i) 0 f), tested) depth 12;
         agree =
-            λ m i b f.
-            let z = and-split _ _ (then _ _ (each-at 64 _ (then _ _ (agree .1) (not-eqb-if (h .mode) 2 m)) i b) (not-eqb-if (kindAt pkind i) 0 f)) in
-            (eqb-true _ _ (z .0), same-day _ _ (z .1));
-        waits =
-            λ w.
-            let turn = and-split _ _ (then _ _ (wait .1) (not-eqb-if (h .wait) 0 w)) in
-            let any = and-split _ _ (turn .0) in
-            let one = and-split _ _ (any .0) in
-            let cell = and-split _ _ (one .1) in
-            record {
-              mode-is = eqb-true _ _ (one .0);
-              cell-below = ltb-true _ _ (cell .0);
-              cell-blank = eqb-true _ _ (cell .1);
-              something = any .1;
-              elsewhere = not-eqb _ _ (turn .1);
-            };
+            λ m i b f. search (holds (not-eqb-if (h .mode) 2 m), at-place i b, holds (not-eqb-if (kindAt pkind i) 0 f), same-day, tested) depth 12;
+        waits = λ w. search (holds (not-eqb-if (h .wait) 0 w), tested) depth 12;
       }
 
   pub sound-if : Sound h kind day pkind pday → soundOf h kind day pkind pday ≡ true

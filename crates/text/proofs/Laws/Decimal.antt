@@ -1,5 +1,4 @@
 -- Laws of what is read of a decimal number (specs/Decimal.antt).
---   and-split                               both parts of `a && b`
 --   decimal-is                              a word is decimal if it leads well and is of digits: `noLeadingZero` and `digits`
 --   no-lead, leads-by, leads-room           what `no_leading_zero` returns, and what it requires
 --   value-grows, capped-sooner              a number with more digits is no smaller, so that it may be capped at each of them
@@ -7,7 +6,7 @@
 -- Assumes nothing.
 use mathlib.Core.Path.{_≡_, refl, sym, ap, _∙_}
 use mathlib.Core.List.{List, [], _∷_}
-use mathlib.Core.Bool.{Bool, true, false, not, _&&_, _||_, and-true, and-assoc, and-comm, false≢true}
+use mathlib.Core.Bool.{Bool, true, false, not, _&&_, _||_, and-true, and-assoc, and-comm}
 use Prim.Native.Nat.{ℕ, suc, _+_, _*_, _-_, _<_, _≤_, min}
 use native.Mathlib.Omega.{arith}
 use lib.Dec.{eqb, leb, eqb·suc-suc}
@@ -17,10 +16,6 @@ use borrow.Author.Tests.{leb-true, leb-false}
 use Rattle.text.specs.Separated.{firstPart}
 use Rattle.text.specs.Decimal.{isDigit, digits, noLeadingZero, isDecimal, valueFrom, value, beyond, decimalAt}
 use Rattle.text.proofs.Laws.Parts.{GoesOn, empty, part-taken, part-room, part-goes-on}
-
-pub and-split : (a b : Bool) → a && b ≡ true → (a ≡ true) × (b ≡ true)
-and-split true b e = (refl, e)
-and-split false b e = absurd (false≢true e)
 
 -- ---- leading
 

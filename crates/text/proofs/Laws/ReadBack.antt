@@ -4,17 +4,18 @@
 -- Assumes nothing.
 use mathlib.Core.Path.{_≡_, refl, ap, _∙_}
 use mathlib.Core.List.{List, [], _∷_, _++_, append-nil}
-use mathlib.Core.Bool.{Bool, true, false, cond, not, _&&_, _||_, false≢true}
+use mathlib.Core.Bool.{Bool, true, false, cond, not, _||_, false≢true}
 use Prim.Native.Nat.{ℕ, zero, suc, _+_, _*_, _-_, _/_, _%_, _<_, _≤_, _^_}
 use native.Mathlib.Omega.{arith}
 use native.Mathlib.Nat.{add-zero, mul-le-mul-right, pow-le-pow-right, pow-succ'}
 use lib.Dec.{eqb, leb, ltb}
 use lib.ListN.{length}
 use borrow.Author.Tests.{le-leb, leb-true, leb-false, ltb-true, ltb-false, le-ltb, lt-ltb, ne-eqb, eqb-true, eqb-false}
+use Rattle.numbers.proofs.Tests.{tested}
 use Rattle.text.specs.Decimal.{isDigit, digits, noLeadingZero, isDecimal, valueFrom, value, digitsOnto, decimal}
 use Rattle.text.specs.Promises.{PrintedReadsBack, ReadPrintsBack}
 use Rattle.text.proofs.Laws.Parts.{empty}
-use Rattle.text.proofs.Laws.Decimal.{and-split, decimal-is}
+use Rattle.text.proofs.Laws.Decimal.{decimal-is}
 
 -- ---- printed, and read
 
@@ -93,8 +94,8 @@ value-least v (b ∷ bs) =
 print-step : (m v b : ℕ) (tail : List ℕ) → 1 ≤ v → isDigit b ≡ true → digitsOnto (suc m) (10 * v + (b - 48)) tail ≡ digitsOnto m v (b ∷ tail)
 unfolding digitsOnto
 print-step m v b tail some d =
-    let low = leb-true 48 b (and-split (leb 48 b) (leb b 57) d .0) in
-    let high = leb-true b 57 (and-split (leb 48 b) (leb b 57) d .1) in
+    let low : 48 ≤ b = search tested in
+    let high : b ≤ 57 = search tested in
     let front : (10 * v + (b - 48)) / 10 ≡ v = omega arith in
     let last : 48 + (10 * v + (b - 48)) % 10 ≡ b = omega arith in
     rw (le-ltb (10 * v + (b - 48)) 10 (omega arith), front, last)
@@ -103,18 +104,17 @@ prints-on : (m v : ℕ) (word tail : List ℕ) → 1 ≤ v → digits word ≡ t
 unfolding valueFrom
 prints-on m v [] tail some d = ap (λ (n : ℕ). digitsOnto n v tail) (add-zero m)
 prints-on m v (b ∷ bs) tail some d =
-    let both = and-split (isDigit b) (digits bs) d in
     let count : m + suc (length bs) ≡ suc m + length bs = omega arith in
     ap (λ (n : ℕ). digitsOnto n (valueFrom (10 * v + (b - 48)) bs) tail) count
-    ∙ prints-on (suc m) (10 * v + (b - 48)) bs tail (omega arith) (both .1)
-    ∙ print-step m v b (bs ++ tail) some (both .0)
+    ∙ prints-on (suc m) (10 * v + (b - 48)) bs tail (omega arith) (search tested)
+    ∙ print-step m v b (bs ++ tail) some (search tested)
 
 -- a number of one digit
 print-one : (m b : ℕ) (tail : List ℕ) → isDigit b ≡ true → digitsOnto (suc m) (b - 48) tail ≡ b ∷ tail
 unfolding digitsOnto
 print-one m b tail d =
-    let low = leb-true 48 b (and-split (leb 48 b) (leb b 57) d .0) in
-    let high = leb-true b 57 (and-split (leb 48 b) (leb b 57) d .1) in
+    let low : 48 ≤ b = search tested in
+    let high : b ≤ 57 = search tested in
     let last : 48 + (b - 48) % 10 ≡ b = omega arith in
     rw (lt-ltb (b - 48) 10 (omega arith), last)
 
@@ -140,7 +140,7 @@ prints-word b bs d ds true e lead h =
     let same : 10 * 0 + (b - 48) ≡ b - 48 = omega arith in
     rw alone (ap (λ (v : ℕ). digitsOnto 10 v []) same ∙ print-one 9 b [] d)
 prints-word b bs d ds false e lead h =
-    let low = leb-true 48 b (and-split (leb 48 b) (leb b 57) d .0) in
+    let low : 48 ≤ b = search tested in
     let first : 1 ≤ b - 48 = above low (eqb-false b 48 e) in
     let same : 10 * 0 + (b - 48) ≡ b - 48 = omega arith in
     let small : valueFrom (b - 48) bs < 10 ^ 10 = rw same at h in
@@ -155,7 +155,4 @@ prints-word b bs d ds false e lead h =
 pub read-prints-back : ReadPrintsBack
 unfolding isDecimal
 read-prints-back [] t h = absurd (false≢true t)
-read-prints-back (b ∷ bs) t h =
-    let both = and-split (isDigit b && digits bs) (not (eqb b 48) || eqb (length bs) 0) t in
-    let all = and-split (isDigit b) (digits bs) (both .0) in
-    prints-word b bs (all .0) (all .1) (eqb b 48) refl (both .1) h
+read-prints-back (b ∷ bs) t h = prints-word b bs (search tested) (search tested) (eqb b 48) refl (search tested) h

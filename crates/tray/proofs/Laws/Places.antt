@@ -22,7 +22,7 @@ use borrow.Author.Tests.{le-leb, lt-leb, leb-true, leb-false, ltb-true, ltb-fals
 use Rattle.numbers.specs.Numbers.{bytes, at1, at2}
 use Rattle.laying.specs.Laying.{laidOver}
 use Rattle.sheet.specs.Good.{good}
-use Rattle.sheet.proofs.Laws.Bools.{and-split}
+use Rattle.numbers.proofs.Tests.{tested}
 use Rattle.sheet.proofs.Laws.Good.{good-within}
 use Rattle.tray.specs.Tray.{placeStart, lengthAt, free, sheetAt, restAt, zeros, holdsGood, placeBytes, heldIn, clearedIn}
 use Rattle.tray.proofs.Laws.Zeros.{zeros-are}
@@ -63,16 +63,7 @@ pub record HoldsGood (tray : List ℕ) (q : ℕ) : Type 0 where
 module _ (tray : List ℕ) (q : ℕ) where
   pub holds-says : holdsGood tray q ≡ true → HoldsGood tray q
   unfolding holdsGood
-  holds-says h =
-      let rest = and-split _ _ h in
-      let sheet = and-split _ _ (rest .0) in
-      let size = and-split _ _ (sheet .0) in
-      record {
-        room = leb-true _ _ (size .0);
-        few = leb-true _ _ (size .1);
-        sheet-good = sheet .1;
-        rest-zeros = rest .1;
-      }
+  holds-says h = search tested
 
   pub holds-not-free : holdsGood tray q ≡ true → free tray q ≡ false
   holds-not-free h =

@@ -14,12 +14,12 @@ use native.Mathlib.Omega.{arith}
 use lib.Dec.{eqb, ltb}
 use lib.Signed.{mag}
 use lib.ListN.{length}
-use borrow.Author.Tests.{ltb-true, eqb-true, eq-eqb}
+use borrow.Author.Tests.{ltb-true, eq-eqb}
 use Rattle.answer.specs.Answer.{Answer, refused, answered}
 use Rattle.content.specs.Content.{dayOf}
 use Rattle.laying.specs.Laying.{laidOver}
 use Rattle.sheet.specs.Good.{good}
-use Rattle.sheet.proofs.Laws.Bools.{and-split}
+use Rattle.numbers.proofs.Tests.{or-left, or-right, tested}
 use Rattle.cells.specs.Cells.{placeAt, each, putIf, anywhere}
 use Rattle.sound.specs.Head.{readWaits, waitCell}
 use Rattle.sound.specs.Sound.{soundOf}
@@ -60,14 +60,10 @@ possible n s (delivers p k) = ltb p n && ltb k (length (s .line))
 possible n s (takes p) = ltb p n
 
 pub is-possible : (n : ℕ) (s : State) (c : Call) → possible n s c ≡ true → Possible n s c
-is-possible n s (writes p cell c) e =
-    let t = and-split (ltb p n) _ e in
-    (ltb-true p n (t .0), record { sfits = ltb-true (mag (dayOf c)) (2 ^ 31) (t .1) })
+is-possible n s (writes p cell c) e = (search tested, record { sfits = search tested })
 is-possible n s (reads p cell) e = ltb-true p n e
 is-possible n s (sends p buffer) e = ltb-true p n e
-is-possible n s (delivers p k) e =
-    let t = and-split (ltb p n) _ e in
-    (ltb-true p n (t .0), ltb-true k (length (s .line)) (t .1))
+is-possible n s (delivers p k) e = search tested
 is-possible n s (takes p) e = ltb-true p n e
 
 abbrev pub allPossible : Calls → ℕ → State → List Call → Bool
@@ -77,9 +73,7 @@ allPossible calls n s (c ∷ cs) = possible n s c && allPossible calls n (after 
 pub is-run : (calls : Calls) (n : ℕ) (s : State) (cs : List Call) → allPossible calls n s cs ≡ true → Run calls n s cs
 unfolding Run
 is-run calls n s [] e = tt
-is-run calls n s (c ∷ cs) e =
-    let t = and-split (possible n s c) _ e in
-    (is-possible n s c (t .0), is-run calls n (after calls s c) cs (t .1))
+is-run calls n s (c ∷ cs) e = (is-possible n s c (search tested), is-run calls n (after calls s c) cs (search tested))
 
 -- ---- a read that waits
 
@@ -87,10 +81,7 @@ abbrev pub waitsAt : ℕ → ℕ → State → Bool
 waitsAt p cell s = readWaits (s .desk p .head) && eqb (waitCell (s .desk p .head)) cell
 
 waits-at : (p cell : ℕ) (s : State) → waitsAt p cell s ≡ true → ReadWaits s p cell
-waits-at p cell s e =
-    let h = s .desk p .head in
-    let t = and-split (readWaits h) (eqb (waitCell h) cell) e in
-    (t .0, eqb-true (waitCell h) cell (t .1))
+waits-at p cell s e = search tested
 
 abbrev pub waitsOn : Calls → (p cell : ℕ) → State → List Call → Bool
 waitsOn calls p cell s [] = waitsAt p cell s
@@ -103,14 +94,9 @@ pub answered-last : (calls : Calls) (p cell : ℕ) (s : State) (cs : List Call) 
 unfolding afterAll
 answered-last calls p cell s [] c e h = at-this (waits-at p cell s e) h
 answered-last calls p cell s (d ∷ cs) c e h =
-    let t = and-split (waitsAt p cell s) (waitsOn calls p cell (after calls s d) cs) e in
-    waits-on (waits-at p cell s (t .0)) (answered-last calls p cell (after calls s d) cs c (t .1) h)
+    waits-on (waits-at p cell s (search tested)) (answered-last calls p cell (after calls s d) cs c (search tested) h)
 
 -- ---- none of these calls
-
-neither : (a b : Bool) → a || b ≡ false → (a ≡ false) × (b ≡ false)
-neither true b e = absurd (false≢true (sym e))
-neither false b e = (refl, e)
 
 abbrev pub someSeen : Calls → (State → Call → Bool) → State → List Call → Bool
 someSeen calls test s [] = false
@@ -119,8 +105,8 @@ someSeen calls test s (c ∷ cs) = test s c || someSeen calls test (after calls 
 module _ (calls : Calls) (such : State → Call → Type 0) (test : State → Call → Bool)
     (sees : (s : State) (c : Call) → such s c → test s c ≡ true) where
   unseen : {s : State} {cs : List Call} → someSeen calls test s cs ≡ false → OneOf calls such s cs → ⊥
-  unseen e (first {s} {c} {cs} h) = false≢true (sym (neither (test s c) _ e .0) ∙ sees s c h)
-  unseen e (further {s} {c} {cs} h) = unseen (neither (test s c) _ e .1) h
+  unseen e (first {s} {c} {cs} h) = false≢true (sym (or-left (test s c) _ e) ∙ sees s c h)
+  unseen e (further {s} {c} {cs} h) = unseen (or-right (test s c) _ e) h
 
 -- a take of desk p, accepted or not
 abbrev pub seesTake : ℕ → State → Call → Bool

@@ -1,6 +1,7 @@
 -- `steps::read_ends` meets its contract.
 -- Assumes nothing.
 use borrow.Author.Needs.{needs}
+use Rattle.desk.proofs.Laws.Steps.{ends-so}
 use Rattle.desk.proofs.steps.read_ends.Statement.{statement}
 use Rattle.desk.proofs.steps.read_ends.Tie as tie
 
@@ -11,7 +12,7 @@ own-turn-requires : tie.Need-own-turn-requires
 own-turn-requires c κs = search needs
 
 returns : tie.Need-returns
-returns c = rw (c .before .own-turn .ensures, c .before .before .next-head .ensures)
+returns c = search (ends-so, needs)
 
 pub read-ends-spec : {M : Type 1} → statement M
 read-ends-spec = tie.close (tie.spec next-head-requires own-turn-requires returns)
