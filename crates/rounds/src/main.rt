@@ -31,20 +31,16 @@ fn read_all(fd: i32, buf: &mut [u8]) -> Input
     Input::Read(len)
 }
 
-// Plays a schedule and writes what it printed.
-fn print(schedule: &[u8]) {
-    let mut out = [0u8; 64064];
-    let size = play::play(schedule, &mut out);
-    if !io::write_all(STDOUT_FILENO, &out[..size]) {
-        os::fail(b"rounds: not all of the output could be written");
-    }
-}
-
 fn main() {
     // One byte more than a schedule may have, so that one that is too long shows.
     let mut input = [0u8; 16385];
-    match read_all(STDIN_FILENO, &mut input) {
-        Input::Read(len) => print(&input[..len]),
-        Input::Failed => os::fail(b"rounds: standard input cannot be read"),
+    let Input::Read(len) = read_all(STDIN_FILENO, &mut input) else {
+        os::fail(b"rounds: standard input cannot be read");
+        return;
+    };
+    let mut out = [0u8; 64064];
+    let size = play::play(&input[..len], &mut out);
+    if !io::write_all(STDOUT_FILENO, &out[..size]) {
+        os::fail(b"rounds: not all of the output could be written");
     }
 }
