@@ -1,4 +1,4 @@
--- `deliver` meets its contract: each return is one of the laws `deliveries`.
+-- `deliver` meets its contract: each return is one of the laws `deliveries`. What `search` does not reach is named by the call that gives it.
 -- Assumes nothing.
 use borrow.Author.Needs.{needs}
 use Rattle.desk.proofs.Laws.Sends.{deliver-bad, deliver-so, deliveries}
@@ -36,13 +36,23 @@ given-if-requires : tie.Need-given-if-requires
 given-if-requires c κs = search needs
 
 returns-2 : tie.Need-returns-2
-returns-2 c = deliver-bad _ _ _ (c .before .before .before .before .before .tray-number .ensures) (c .before .before .before .before .before .before .is-sound .ensures) (c .before .before .before .before .if1 .left) _ (c .before .before .before .read .ensures) _ (c .before .k .given .1)
+returns-2 c = search deliver-bad
 
 same-length : tie.Need-same-length
 same-length c = search needs
 
 returns-3 : tie.Need-returns-3
-returns-3 c = deliver-so _ _ _ (c .before .before .before .before .before .before .before .before .before .before .before .before .before .tray-number .ensures) (c .before .before .before .before .before .before .before .before .before .before .before .before .before .before .is-sound .ensures) (c .before .before .before .before .before .before .before .before .before .before .before .before .if1 .left) _ (c .before .before .before .before .before .before .before .before .before .before .before .read .ensures) _ (c .before .before .before .before .before .before .before .before .before .x .given .1) (c .before .before .before .before .before .before .is-free .ensures) (c .before .before .before .before .before .sheet-number .ensures) (c .given-if .ensures) (c .before .before .before .hold-if .ensures)
+returns-3 c =
+    let hold : tie.After-hold-if = search in
+    let sheet : tie.After-sheet-number = search in
+    let free : tie.After-is-free = search in
+    let good : tie.After-x = search in
+    let read : tie.After-read = search in
+    let allowed : tie.Else1 = search in
+    let number : tie.After-tray-number = search in
+    let sound : tie.After-is-sound = search in
+    deliver-so _ _ _ (number .tray-number .ensures) (sound .is-sound .ensures) (allowed .if1 .left) _ (read .read .ensures) _ (good .x .given .1)
+    (free .is-free .ensures) (sheet .sheet-number .ensures) (c .given-if .ensures) (hold .hold-if .ensures)
 
 pub deliver-spec : {M : Type 1} → statement M
 deliver-spec =

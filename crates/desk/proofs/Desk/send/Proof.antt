@@ -1,7 +1,7 @@
--- `send` meets its contract: each return is one of the laws `sendings`.
+-- `send` meets its contract: each return is one of the laws `sendings`. What `search` does not reach is named by the call that gives it.
 -- Assumes nothing.
 use borrow.Author.Needs.{needs}
-use Rattle.desk.proofs.Laws.Sends.{send-turn, send-short, sendings}
+use Rattle.desk.proofs.Laws.Sends.{send-short, sendings}
 use Rattle.desk.proofs.Desk.send.Statement.{statement}
 use Rattle.desk.proofs.Desk.send.Tie as tie
 
@@ -24,13 +24,16 @@ enum-known-entries : tie.Need-enum-known-entries
 enum-known-entries c = search needs
 
 next-head-requires : tie.Need-next-head-requires
-next-head-requires c κs = send-turn (c .before .before .before .before .before .before .before .before .before .before .before .before .before .before .before .before .before .before .before .before .args .t1) (c .before .before .before .before .before .before .before .before .before .before .before .before .before .before .before .before .before .before .before .before .args .buf .now) (c .before .before .before .before .before .before .before .before .before .before .before .send-number .ensures) (c .before .before .before .before .before .before .before .before .before .before .before .before .is-sound .ensures) (c .before .before .before .before .before .before .before .before .before .before .if1 .left)
+next-head-requires c κs = search (sendings, needs)
 
 same-length : tie.Need-same-length
 same-length c = search needs
 
 returns-2 : tie.Need-returns-2
-returns-2 c = send-short _ _ (c .before .before .before .before .before .before .before .before .before .before .before .send-number .ensures) (c .before .before .before .before .before .before .before .before .before .before .before .before .is-sound .ensures) (c .before .before .before .before .before .before .before .before .before .before .if1 .left) (c .before .before .before .before .before .write-sheet .ensures) _ (c .before .k .given .1)
+returns-2 c =
+    let wrote : tie.After-write-sheet = search in
+    let number : tie.After-send-number = search in
+    search (send-short, wrote .write-sheet .ensures, number .send-number .ensures)
 
 same-length-2 : tie.Need-same-length-2
 same-length-2 c = search needs

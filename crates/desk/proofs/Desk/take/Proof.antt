@@ -1,4 +1,4 @@
--- `take` meets its contract: each return is one of the laws of Laws/Takes.antt.
+-- `take` meets its contract: each return is one of the laws of Laws/Takes.antt. What `search` does not reach is named by the call that gives it.
 -- Assumes nothing.
 use borrow.Author.Needs.{needs}
 use Rattle.desk.proofs.Laws.Takes.{takings, take-not-there, took}
@@ -27,7 +27,14 @@ same-length : tie.Need-same-length
 same-length c = search needs
 
 returns-2 : tie.Need-returns-2
-returns-2 c = take-not-there (c .before .before .before .before .before .before .before .before .before .before .before .before .before .before .before .args .t1) (c .before .before .before .before .before .before .before .before .before .before .before .before .before .before .before .args .tray .now) (c .before .before .before .before .before .before .take-number .ensures) (c .before .before .before .before .before .before .before .is-sound .ensures) (c .before .before .before .before .before .if1 .left) (c .before .before .before .before .turn-desk .ensures) (c .before .before .look .ensures) (c .if2 .taken)
+returns-2 c =
+    let look : tie.After-look = search in
+    let desk : tie.After-turn-desk = search in
+    let allowed : tie.Else1 = search in
+    let number : tie.After-take-number = search in
+    let sound : tie.After-is-sound = search in
+    take-not-there _ _ (number .take-number .ensures) (sound .is-sound .ensures) (allowed .if1 .left) (desk .turn-desk .ensures)
+    (look .look .ensures) (c .if2 .taken)
 
 apply-from-requires : tie.Need-apply-from-requires
 apply-from-requires c κs = search (takings, needs)
@@ -57,7 +64,23 @@ same-length-2 : tie.Need-same-length-2
 same-length-2 c = search needs
 
 returns-3 : tie.Need-returns-3
-returns-3 c = took (c .before .before .before .before .before .before .before .before .before .before .before .before .before .before .before .before .before .before .before .before .before .before .before .before .before .before .before .before .before .before .before .before .before .before .before .args .t1) (c .before .before .before .before .before .before .before .before .before .before .before .before .before .before .before .before .before .before .before .before .before .before .before .before .before .before .before .before .before .before .before .before .before .before .before .args .tray .now) (c .before .before .before .before .before .before .before .before .before .before .before .before .before .before .before .before .before .before .before .before .before .before .before .before .before .before .take-number .ensures) (c .before .before .before .before .before .before .before .before .before .before .before .before .before .before .before .before .before .before .before .before .before .before .before .before .before .before .before .is-sound .ensures) (c .before .before .before .before .before .before .before .before .before .before .before .before .before .before .before .before .before .before .before .before .before .before .before .before .before .if1 .left) (c .before .before .before .before .before .before .before .before .before .before .before .before .before .before .before .before .before .before .before .before .before .before .before .before .turn-desk .ensures) (c .before .before .before .before .before .before .before .before .before .before .before .before .before .before .before .before .before .before .before .before .before .before .look .ensures) (c .before .before .before .before .before .before .before .before .before .before .before .before .before .before .before .before .before .before .before .before .if2 .left) (c .before .before .before .before .before .before .before .before .before .before .before .before .apply-from .ensures) (c .before .before .before .before .before .before .before .before .before .before .before .read-ends .ensures) (c .before .before .before .before .before .before .before .before .wait-cell .ensures) (c .before .before .before .before .before .before .before .content-at .ensures) (c .before .before .wait-after .ensures) (c .before .next-head .ensures) (c .before .before .before .before .before .clear .ensures) (c .taken-answer .ensures)
+returns-3 c =
+    let there : tie.Else2 = search in
+    let look : tie.After-look = search in
+    let desk : tie.After-turn-desk = search in
+    let allowed : tie.Else1 = search in
+    let number : tie.After-take-number = search in
+    let sound : tie.After-is-sound = search in
+    let head : tie.After-next-head = search in
+    let wait : tie.After-wait-after = search in
+    let cleared : tie.After-clear = search in
+    let content : tie.After-content-at = search in
+    let cell : tie.After-wait-cell = search in
+    let over : tie.After-read-ends = search in
+    let applied : tie.After-apply-from = search in
+    took _ _ (number .take-number .ensures) (sound .is-sound .ensures) (allowed .if1 .left) (desk .turn-desk .ensures)
+    (look .look .ensures) (there .if2 .left) (applied .apply-from .ensures) (over .read-ends .ensures) (cell .wait-cell .ensures)
+    (content .content-at .ensures) (wait .wait-after .ensures) (head .next-head .ensures) (cleared .clear .ensures) (c .taken-answer .ensures)
 
 pub take-spec : {M : Type 1} → statement M
 take-spec =

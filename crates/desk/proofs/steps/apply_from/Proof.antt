@@ -24,7 +24,7 @@ apply-requires : tie.Need-apply-requires
 apply-requires c κs = search needs
 
 returns : tie.Need-returns
-returns c = rw (rest-of (c .before .before .before .before .before .before .args .tray .now) _) at (c .apply .ensures)
+returns c = let start : tie.Start = search in rw (rest-of (start .args .tray .now) _) at (c .apply .ensures)
 
 pub apply-from-spec : {M : Type 1} → statement M
 apply-from-spec =

@@ -46,8 +46,13 @@ put-line-requires c κs = search needs
 
 returns : tie.Need-returns Inv-loop μ-loop
 returns c =
-    run-bad _ _ _ _ _ _ _ _ _ _ _ _ _ _ _ (c .before .before .before .before .before .before .before .before .before .loop .inv) (omega arith) _ (c .before .before .before .before .before .before .before .part-end .ensures) (c .before .before .before .before .before .before .step-at .result) (c .before .before .before .before .before .before .step-at .ensures)
-    (c .before .before .before .before .enum-told .given .1) _ _ (c .before .before .put-line .ensures .0) (c .before .before .put-line .ensures .1)
+    let bad : tie.After-enum-told Inv-loop μ-loop = search in
+    let step : tie.After-step-at Inv-loop μ-loop = search in
+    let end : tie.After-part-end Inv-loop μ-loop = search in
+    let loop : tie.At-loop Inv-loop μ-loop = search in
+    let put : tie.After-put-line Inv-loop μ-loop = search in
+    run-bad _ _ _ _ _ _ _ _ _ _ _ _ _ _ _ (loop .loop .inv) (omega arith) _ (end .part-end .ensures) (step .step-at .result) (step .step-at .ensures)
+    (bad .enum-told .given .1) _ _ (put .put-line .ensures .0) (put .put-line .ensures .1)
 
 same-length : tie.Need-same-length Inv-loop μ-loop
 same-length c = ran-long (returns c)
@@ -80,7 +85,9 @@ slice-aggregate-make : tie.Need-slice-aggregate-make Inv-loop μ-loop
 slice-aggregate-make c = search needs
 
 make-requires : tie.Need-make-requires Inv-loop μ-loop
-make-requires c κs = (search (turns, needs), (search (turns, needs), c .before .before .before .before .before .before .before .before .before .loop .inv .stands .kept .fits))
+make-requires c κs =
+    let loop : tie.At-loop Inv-loop μ-loop = search in
+    (search (turns, needs), (search (turns, needs), loop .loop .inv .stands .kept .fits))
 
 mul-ds : tie.Need-mul-ds Inv-loop μ-loop
 mul-ds c = search (turns, needs)
@@ -92,7 +99,7 @@ put-line-requires-2 : tie.Need-put-line-requires-2 Inv-loop μ-loop
 put-line-requires-2 c κs = search needs
 
 add-k : tie.Need-add-k Inv-loop μ-loop
-add-k c = omega (arith, c .before .before .before .before .before .before .before .before .before .before .before .before .before .before .before .before .before .loop .inv .few-lines)
+add-k c = let loop : tie.At-loop Inv-loop μ-loop = search in omega (arith, loop .loop .inv .few-lines)
 
 add-i : tie.Need-add-i Inv-loop μ-loop
 add-i c = search (turns, needs)
@@ -102,11 +109,19 @@ loop-less c = search (turns, needs)
 
 loop-again : tie.Need-loop-again Inv-loop μ-loop
 loop-again c =
-    run-turned _ _ _ _ _ _ _ _ _ _ _ _ _ _ _ (c .before .before .before .before .before .before .before .before .before .before .before .before .before .before .before .before .before .loop .inv) (omega arith) _ (c .before .before .before .before .before .before .before .before .before .before .before .before .before .before .before .part-end .ensures) (c .before .before .before .before .before .before .before .before .before .before .before .before .before .before .step-at .result) (c .before .before .before .before .before .before .before .before .before .before .before .before .before .before .step-at .ensures)
-    _ _ (c .before .before .before .before .before .before .before .before .before .before .before .before .step .given .1) (c .before .before .before .before .before .before .before .make .result) _ _ (c .before .before .before .before .before .before .before .make .ensures) _ _ (c .before .before .put-line2 .ensures .0) (c .before .before .put-line2 .ensures .1)
+    let put : tie.After-put-line2 Inv-loop μ-loop = search in
+    let made : tie.After-make Inv-loop μ-loop = search in
+    let act : tie.After-step Inv-loop μ-loop = search in
+    let step : tie.After-step-at Inv-loop μ-loop = search in
+    let end : tie.After-part-end Inv-loop μ-loop = search in
+    let loop : tie.At-loop Inv-loop μ-loop = search in
+    run-turned _ _ _ _ _ _ _ _ _ _ _ _ _ _ _ (loop .loop .inv) (omega arith) _ (end .part-end .ensures) (step .step-at .result) (step .step-at .ensures)
+    _ _ (act .step .given .1) (made .make .result) _ _ (made .make .ensures) _ _ (put .put-line2 .ensures .0) (put .put-line2 .ensures .1)
 
 returns-2 : tie.Need-returns-2 Inv-loop μ-loop
-returns-2 c = run-ended _ _ _ _ _ _ _ _ _ _ _ _ _ _ _ (c .before .loop .inv) (omega arith)
+returns-2 c =
+    let loop : tie.At-loop Inv-loop μ-loop = search in
+    run-ended _ _ _ _ _ _ _ _ _ _ _ _ _ _ _ (loop .loop .inv) (omega arith)
 
 same-length-2 : tie.Need-same-length-2 Inv-loop μ-loop
 same-length-2 c = ran-long (returns-2 c)
