@@ -1,5 +1,5 @@
--- Lines as 01 has them written, and what they say: one of each form, the greatest and least, and lines of other forms; on a shelf of two desks.
--- proofs/Samples.antt computes each.
+-- Lines as 01 has them written, and what they say: one of each form, the greatest and least, and lines of other forms; on a shelf of
+-- two desks. proofs/Samples.antt computes each.
 -- Assumes nothing.
 use mathlib.Core.Path.{_≡_}
 use mathlib.Core.Option.{none, some}
@@ -23,8 +23,8 @@ SaysStart line x = startIn (ended (text line)) ≡ some x
 abbrev pub SaysNoStart : String → Type 0
 SaysNoStart line = startIn (ended (text line)) ≡ none
 
--- "Line 1: desks, cells, mode letter (`s`, `c`, `k` for cache, `-` for default)"; "Steps: `w` desk cell day-or-`open`; `r` desk cell; `s` desk; `d` sender
--- receiver (sender's latest sheet, again if wanted); `t` desk."
+-- "Line 1: desks, cells, mode letter (`s`, `c`, `k` for cache, `-` for default)"; "Steps: `w` desk cell day-or-`open`; `r` desk cell;
+-- `s` desk; `d` sender receiver (sender's latest sheet, again if wanted); `t` desk."
 pub record EachForm : Type 0 where
   pub start : SaysStart "3 5 s" (record { n = 3; m = 5; mode = 1 })
   pub write-day : SaysStep "w 1 4 7" (record { desk = 1; act = writes 4 (Day (pos 7)) })

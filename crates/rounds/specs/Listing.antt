@@ -1,5 +1,5 @@
--- 01, "The program `rounds`": its listing, input and output, to the byte; and that it is a run of demand 3. The strings are the lines of this crate's files
--- `stdin` and `stdout`: those are the source, and tools/listing holds the strings to them.
+-- 01, "The program `rounds`": its listing, input and output, to the byte; and that it is a run of demand 3. The strings are the lines
+-- of this crate's files `stdin` and `stdout`: those are the source, and tools/listing holds the strings to them.
 -- Assumes nothing.
 use Prim.Native.Nat.{ℕ}
 use Prim.Native.String.{String}
@@ -55,7 +55,8 @@ output =
 abbrev pub Listing : Type 0
 Listing = printed input ≡ output
 
--- its line 1 says a shelf whose desks can be opened, the lines behind it are calls of a run of demand 3 on that shelf, and `output` are that run's answers
+-- its line 1 says a shelf whose desks can be opened, the lines behind it are calls of a run of demand 3 on that shelf, and what is
+-- printed, `output`, are that run's answers
 pub record ListingIsARun : Type 0 where
   pub shelf : Start
   pub steps : List Line

@@ -1,5 +1,5 @@
--- Runs, played by computing the definitions of the calls. They show that what demand 3 speaks of comes about, and that some of what it says cannot be
--- said more strongly. (01's listing is a run, too: crates/rounds/specs/Listing.antt.) proofs/RunsPlayed.antt proves it.
+-- Runs, played by computing the definitions of the calls. They show that what demand 3 speaks of comes about, and that some of what it
+-- says cannot be said more strongly. (01's listing is a run, too: crates/rounds/specs/Listing.antt.) proofs/RunsPlayed.antt proves it.
 -- Assumes nothing.
 use mathlib.Core.Path.{_≡_}
 use mathlib.Core.List.{List, [], _∷_, _++_}

@@ -1,5 +1,5 @@
--- `main` is safe: what is played is the front of one buffer (`Within`, specs/Input.antt), and what is written the front of another (`Prints`,
--- crates/play/specs/Rounds.antt).
+-- `main` is safe: what is played is the front of one buffer (`Within`, specs/Input.antt), and what is written the front of another
+-- (`Prints`, crates/play/specs/Rounds.antt).
 -- Assumes nothing.
 use borrow.Author.Needs.{needs}
 use mathlib.Core.Path.{_≡_, sym, subst}
