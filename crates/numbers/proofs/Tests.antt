@@ -1,5 +1,5 @@
--- Tests of many parts, taken apart. They stand here because every crate with such tests stands on this one.
---   and-split, neither            both parts of `a && b` that holds, and of `a || b` that does not
+-- Tests of many parts, taken apart. They stand in this crate, which stands on no other, for all crates above it.
+--   and-split, neither            both parts of `a && b` that holds, and of `a || b` that does not; each part alone: and-left, or-left and the like
 --   tested                        a set for `search`: each part of a chain of tests as the fact that it tests, wherever in the chain it stands
 -- Assumes nothing.
 use mathlib.Core.Path.{_≡_, refl, sym}

@@ -10,5 +10,4 @@ use Rattle.numbers.proofs.Tests.{tested}
 use Rattle.runs.specs.Run.{Within}
 
 pub sized : (n m mode : ℕ) → within 1 16 n && within 1 64 m && leb mode 3 ≡ true → Within (record { n = n; m = m; mode = λ p. mode })
-sized n m mode e =
-    search tested
+sized n m mode e = search tested

@@ -49,6 +49,7 @@ pub record Sound (h : Head) (kind : List ℕ) (day : List ℤ) (pkind : List ℕ
 
 -- ---- tests and what they say
 
+-- rules for `search`: a test of each place, at one; a test that is asked for where another holds, which it does
 at-place : (i : ℕ) → i < 64 → (p : ℕ → Bool) → each 64 p ≡ true → p i ≡ true
 at-place i b p e = each-at 64 p e i b
 
