@@ -2,7 +2,7 @@
 -- record unchanged, one that does its first take truly and afterwards only moves the turn, one that reports invented applied counts. Demand
 -- 2 shuts out all five". And "Examples at the edges", "Slips to rule out".
 -- Each is made here as calls, and demand 2 (crates/figure/specs/Demand2.antt) is false of them. What the sentence does not name is as 01
--- says: a call that 01 refuses is refused so, and changes nothing. proofs/WrongDesks.antt proves it.
+-- says. proofs/WrongDesks.antt proves it.
 -- Assumes nothing.
 use mathlib.Core.Bool.{Bool, cond, not, _&&_}
 use mathlib.Core.List.{List, []}
