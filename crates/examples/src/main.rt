@@ -1,6 +1,6 @@
 // The examples of document 01, run by the code and printed; the file stdout beside src/ is what they
-// must print. Those marked (P) are proved of the definitions too, all by one statement:
-// crates/edges.
+// must print. It is the program of `./register show`. Those marked (P) are proved of the definitions
+// too, all by one statement: crates/edges.
 use calendar::Date;
 use calendar::DateAnswer;
 use calendar::DayAnswer;
@@ -384,4 +384,5 @@ fn main() {
     let mut twelve = [0u8; 12];
     sheet_of(&mut twelve, 0, Content::Blank, 2);
     desks();
+    word::ended(false);
 }

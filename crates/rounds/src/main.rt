@@ -1,46 +1,37 @@
 // The program `rounds`: plays the schedule on standard input, and prints what comes of it. 01, "The
-// program `rounds`". All there is between reading and writing is `play::play`.
-ghost use Rattle.rounds.specs.Input.{Within};
-use libc::STDIN_FILENO;
-use libc::STDOUT_FILENO;
+// program `rounds`". All there is between reading and writing is `play::play`. As the program of
+// `./register play` it plays the file that its argument 2 names.
+use word::Input;
 
-// What came of reading: so many bytes, up to the input's end or the buffer's; or a read failed, and
-// then the bytes before it are not the schedule.
-enum Input {
-    Read(usize),
-    Failed,
+// Whether this is what `rounds` prints where the schedule is none, or is none from some line on.
+fn is_refused(printed: &[u8]) -> bool {
+    ends_in(printed, b"too long\n")
+        | ends_in(printed, b"bad start\n")
+        | ends_in(printed, b" bad line\n")
 }
 
-// Reads until the input ends or buf is full. (`io::read_full` takes a read that fails for the end.)
-fn read_all(fd: i32, buf: &mut [u8]) -> Input
-    ensures { λ r. ⌜ Within (now (buf .exit)) r ⌝ }
-{
-    let mut len = 0;
-    while len < buf.len() {
-        let rest = &mut buf[len..];
-        let got = libc::read(fd, rest);
-        if got < 0 {
-            return Input::Failed;
-        }
-        let more = io::count(got, rest);
-        if more == 0 {
-            break;
-        }
-        len += more;
+fn ends_in(text: &[u8], end: &[u8]) -> bool {
+    if text.len() < end.len() {
+        return false;
     }
-    Input::Read(len)
+    let from = text.len() - end.len();
+    let mut same = true;
+    let mut i = 0;
+    while i < end.len() {
+        same = same & (text[from + i] == end[i]);
+        i += 1;
+    }
+    same
 }
 
 fn main() {
     // One byte more than a schedule may have, so that one that is too long shows.
     let mut input = [0u8; 16385];
-    let Input::Read(len) = read_all(STDIN_FILENO, &mut input) else {
-        os::fail(b"rounds: standard input cannot be read");
+    let Input::Read(len) = word::read(2, &mut input) else {
         return;
     };
     let mut out = [0u8; 64064];
     let size = play::play(&input[..len], &mut out);
-    if !io::write_all(STDOUT_FILENO, &out[..size]) {
-        os::fail(b"rounds: not all of the output could be written");
-    }
+    let printed = &out[..size];
+    word::answer(printed, is_refused(printed));
 }

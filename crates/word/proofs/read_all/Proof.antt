@@ -4,8 +4,8 @@ use borrow.Author.Needs.{needs}
 use Prim.Native.Nat.{_-_, _≤_}
 use mathlib.Core.Path.{_≡_}
 use lib.ListN.{length}
-use Rattle.rounds.proofs.read_all.Statement.{statement}
-use Rattle.rounds.proofs.read_all.Tie as tie
+use Rattle.word.proofs.read_all.Statement.{statement}
+use Rattle.word.proofs.read_all.Tie as tie
 
 abbrev Inv-loop : tie.InvT-loop
 Inv-loop fd buf₀ len₀ buf len = (len ≤ length buf) × (length buf ≡ length buf₀)
