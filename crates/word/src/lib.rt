@@ -28,11 +28,13 @@ pub fn read(i: usize, buf: &mut [u8]) -> Input
     if fd < 0 {
         return Input::Failed;
     }
-    let Input::Read(len) = read_all(fd, buf) else {
+    let Input::Read(size) = read_all(fd, buf) else {
         os::fail(b"the input cannot be read");
+        close(fd);
         return Input::Failed;
     };
-    Input::Read(len)
+    close(fd);
+    Input::Read(size)
 }
 
 // Prints the answer on standard output, and says that it is one, or that it is a refusal. Where it
@@ -73,6 +75,13 @@ fn opened(i: usize) -> i32 {
         os::fail(&path[..len]);
     }
     fd
+}
+
+// Closes what `opened` has opened; standard input stays.
+fn close(fd: i32) {
+    if fd != STDIN_FILENO {
+        libc::close(fd);
+    }
 }
 
 // Reads until the input ends or buf is full. (`io::read_full` takes a read that fails for the end.)

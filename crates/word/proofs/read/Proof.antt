@@ -14,8 +14,8 @@ returns c = search needs
 read-all-requires : tie.Need-read-all-requires
 read-all-requires c κs = search needs
 
-enum-known-len : tie.Need-enum-known-len
-enum-known-len c = search needs
+enum-known-size : tie.Need-enum-known-size
+enum-known-size c = search needs
 
 enum-told : tie.Need-enum-told
 enum-told c = search needs
@@ -26,11 +26,17 @@ slice-aggregate-fail c = search needs
 fail-requires : tie.Need-fail-requires
 fail-requires c κs = search needs
 
+close-requires : tie.Need-close-requires
+close-requires c κs = search needs
+
 same-length : tie.Need-same-length
 same-length c = search needs
 
 returns-2 : tie.Need-returns-2
 returns-2 c = search needs
+
+close-requires-2 : tie.Need-close-requires-2
+close-requires-2 c κs = search needs
 
 same-length-2 : tie.Need-same-length-2
 same-length-2 c = search needs
@@ -45,11 +51,13 @@ read-spec =
     opened-requires
     returns
     read-all-requires
-    enum-known-len
+    enum-known-size
     enum-told
     slice-aggregate-fail
     fail-requires
+    close-requires
     same-length
     returns-2
+    close-requires-2
     same-length-2
     returns-3)
