@@ -94,7 +94,7 @@ fn standing(c: Content, today: i32) {
         Standing::Open => say(b"open\n"),
         Standing::Left(n) => {
             say_signed(n);
-            say(b" left\n");
+            say(b" days left\n");
         }
     }
 }
@@ -274,7 +274,7 @@ fn sends(buf: &mut [u8], pending: &[u8], d: Desk) {
     let a = o.answer;
     say_answer(a);
     if let Answer::Sent { turn, entries } = a {
-        say(b":");
+        say(b":\n ");
         say_first(buf, 12 + 6 * (entries as usize));
     }
     say(b"\n");
