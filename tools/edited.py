@@ -68,7 +68,7 @@ class Edit:
         first, last = min(a for a, _, _ in changes), max(b for _, b, _ in changes)
         self.line = text.count('\n', 0, first) + 1
         start, end = text.rfind('\n', 0, first) + 1, text.find('\n', last)
-        self.key = f'{crate} {function}: {words(text[start:end])} → {words(after[start:end + len(after) - len(text)])}'
+        self.key = f'{crate} {function}: {words(text[start:end])} → {words(after[start:end + len(after) - len(text)])}'.strip()
         self.touches = frozenset()  # the functions that it changes, once that is known
 
 
