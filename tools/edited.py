@@ -11,6 +11,7 @@ import subprocess
 
 ROOT = pathlib.Path(__file__).resolve().parent.parent
 TOKEN = re.compile(r'//[^\n]*|"(?:\\.|[^"\\])*"|b?\'(?:\\.|[^\'\\])\'|[A-Za-z_]\w*|\d\w*|->|=>|==|!=|<=|>=|<<|>>|&&|\|\||::|\.\.|[+\-*/%&|^]=|\s+|.')
+REFUSED = re.compile(r'^fn (\S+): (?:not proved|no proof)(.*)$', re.M)  # a line of `rt dev`
 OPEN, CLOSE = {'(': ')', '[': ']', '{': '}'}, {')', ']', '}'}
 
 
@@ -145,23 +146,22 @@ def batches(edits, calls):
         left = rest
 
 
-def proved(copy, crate):
-    """The functions of the crate that are proved; nothing where the prover could not tell."""
-    said = rt(copy, 'dev', crate).stdout
-    return set(re.findall(r'^fn (\S+): proved$', said, re.M)) if re.search(r'^logic=', said, re.M) else None
+def refused(said):
+    """The functions that `rt dev` refuses: not those with which it could not finish."""
+    return {name for name, rest in REFUSED.findall(said) if 'could not finish' not in rest}
 
 
 def alone(copy, crate):
-    """Whether the crate is still proved, from nothing."""
+    """Whether the crate is still proved, from nothing; or the prover could not tell, so that somebody has to look."""
     shutil.rmtree(copy / 'target' / 'inc' / crate, ignore_errors=True)
-    return rt(copy, 'dev', crate).returncode == 0
+    return rt(copy, 'dev', crate).returncode != 1
 
 
 def attempt(group, copies):
     """Each edit of the group with what the prover says of it."""
-    still = in_copy(copies, group, lambda copy: proved(copy, group[0].crate))
+    lost = refused(in_copy(copies, group, lambda copy: rt(copy, 'dev', group[0].crate).stdout))
     for edit in group:
-        if still is not None and edit.touches - still:
+        if edit.touches & lost:
             yield edit, 'refused'
         elif in_copy(copies, [edit], lambda copy: alone(copy, edit.crate)):
             yield edit, 'survived'
