@@ -5,6 +5,8 @@
 // it. Without argument 1 it was started alone: it reads standard input and prints, and no more.
 // The kit has no exit status, so a program says on descriptor 3 how it ended, and `./register` ends
 // with the status that belongs to it.
+ghost use mathlib.Core.Path.{_≡_};
+ghost use Rattle.word.specs.Ending.{digitOf, Says};
 ghost use Rattle.word.specs.Input.{Within};
 use libc::STDIN_FILENO;
 use libc::STDOUT_FILENO;
@@ -17,6 +19,13 @@ const ENDING: i32 = 3;
 pub enum Input {
     Read(usize),
     Failed,
+}
+
+// What came of answering: it was printed, and this digit said how the program ended; or it could not
+// be printed whole.
+pub enum Said {
+    Ended(u8),
+    Unwritten,
 }
 
 // Reads the file that argument i names, or standard input where there is no argument i, to its end
@@ -39,24 +48,32 @@ pub fn read(i: usize, buf: &mut [u8]) -> Input
 
 // Prints the answer on standard output, and says that it is one, or that it is a refusal. Where it
 // could not be printed whole, one line on standard error says why, and nothing is said of an ending.
-pub fn answer(text: &[u8], refused: bool) {
+pub fn answer(text: &[u8], refused: bool) -> Said
+    ensures { λ r. ⌜ Says refused r ⌝ }
+{
     if !io::write_all(STDOUT_FILENO, text) {
         os::fail(b"not all of the answer could be written");
-        return;
+        return Said::Unwritten;
     }
-    ended(refused);
+    Said::Ended(ended(refused))
 }
 
-// Says how the program ended, to `./register` alone.
-pub fn ended(refused: bool) {
-    if os::arg_count() < 2 {
-        return;
+// Says how the program ended, to `./register` alone, and gives back the digit that says it.
+pub fn ended(refused: bool) -> u8
+    ensures { λ r. ⌜ r ≡ digitOf refused ⌝ }
+{
+    let d = digit(refused);
+    let line = [d, b'\n'];
+    if 1 < os::arg_count() {
+        io::write_all(ENDING, &line);
     }
-    if refused {
-        io::write_all(ENDING, b"refused\n");
-    } else {
-        io::write_all(ENDING, b"answered\n");
-    }
+    d
+}
+
+fn digit(refused: bool) -> u8
+    ensures { λ r. ⌜ r ≡ digitOf refused ⌝ }
+{
+    if refused { b'1' } else { b'0' }
 }
 
 // A descriptor of the file that argument i names, or of standard input; below 0 where there is none.
