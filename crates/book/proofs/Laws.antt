@@ -1,2 +1,4 @@
 pub mod Sheets
+pub mod Good
 pub mod Stepping
+pub mod Examining
