@@ -2,3 +2,4 @@ pub mod Sheets
 pub mod Good
 pub mod Stepping
 pub mod Examining
+pub mod Lookup
