@@ -4,6 +4,7 @@
 // A function over a struct that holds a reference is proved by a walk of its MIR, by hand. So each
 // here is thin: the work is the crate book's, over a slice and a number.
 ghost use mathlib.Core.Path.{_≡_};
+ghost use Rattle.book.specs.Stepping.{stepBack};
 ghost use Rattle.reader.specs.Reading.{atEnd, StepsBack};
 use book::Back;
 
@@ -32,4 +33,13 @@ impl<'a> Reader<'a> {
         self.place = book::place_after(step, self.place);
         step
     }
+}
+
+// One step back from a place, forged or not, by a reader that stands there. A caller needs no walk:
+// no reader is in the contract.
+pub fn step_from(book: &[u8], place: usize) -> Back
+    ensures { λ r. ⌜ r ≡ stepBack (now (book .entry)) place ⌝ }
+{
+    let mut reader = Reader { book, place };
+    reader.back()
 }
