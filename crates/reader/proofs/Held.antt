@@ -1,6 +1,6 @@
 -- What the walks of this crate share.
 --     slice-typed    the machine value of a slice is well typed, where its length fits a usize
---     reader-made    what a slice owns gives what a reader of it owns, at any place that fits a usize
+--     reader-made    what a slice owns gives what a reader of it owns, at a place that fits a usize
 --     step-typed     the machine value of a step has the type of a local for it
 --     step-makes     a step owns facts alone, so what it owns is had for nothing
 -- The laws assume `Given`.
@@ -44,10 +44,12 @@ slice-typed s fits = (tt, (record { fits = fits }, tt))
 
 module _ {M : Type 1} (𝓤 : URA M) (H : Heap 𝓤) (A : Atoms 𝓤) (W : Given 𝓤 H A) where
   pub reader-made : (α : NamedLft) (s : RefT (List ℕ)) (n : ℕ) → n < 2 ^ 64
-      → ent 𝓤 (sem 𝓤 H A (ShrSlice (α .mir) (α .lft) u8 .own s (sliceAt s ∷ []))) (sem 𝓤 H A (T.the-row α .own (readerAt s n) (T′.lowered (readerAt s n) ∷ [])))
+      → ent 𝓤 (sem 𝓤 H A (ShrSlice (α .mir) (α .lft) u8 .own s (sliceAt s ∷ [])))
+      (sem 𝓤 H A (T.the-row α .own (readerAt s n) (T′.lowered (readerAt s n) ∷ [])))
   reader-made α s n fits =
       qed W (‵ (ShrSlice (α .mir) (α .lft) u8 .own s (sliceAt s ∷ [])) ∷ []) ∵
-      nothing ! $ owned ! usize (Is usize) (uint-makes 𝓤 H A W w64) n _ (refl, fits) $ fjoin ! $ move ! (1 ∷ 0 ∷ []) $ fjoin ! $ by ! (own-shut 𝓤 H A W (T.the-type α) (T′.the-laws α) (s, (n, tt)))
+      nothing ! $ owned ! usize (Is usize) (uint-makes 𝓤 H A W w64) n _ (refl, fits) $ fjoin ! $ move ! (1 ∷ 0 ∷ []) $ fjoin ! $
+      by ! (own-shut 𝓤 H A W (T.the-type α) (T′.the-laws α) (s, (n, tt)))
 
   pub step-typed : (r : Back) (u : Val) → Is S.the-row r (u ∷ []) → Holds (hasTy S′.mir u) × WT u
   step-typed r u is = EL.lawful S.the-type S′.the-laws 𝓤 H A W tt .typed r _ is .0

@@ -1,4 +1,5 @@
--- 02, K1: "A reader keeps the book and the place it has got to, and gives back each sheet as the very part of the book that holds it."
+-- 02, K1: "A reader keeps the book and the place it has got to, and gives back each sheet as the
+-- very part of the book that holds it."
 -- Assumes nothing.
 use mathlib.Core.Path.{_≡_}
 use Prim.Native.Nat.{ℕ}

@@ -24,8 +24,8 @@ pub fn opened<'a>(book: &'a [u8]) -> Reader<'a>
 }
 
 impl<'a> Reader<'a> {
-    // One step back. "gives back each sheet as the very part of the book that holds it": by where it
-    // starts and ends there. The reader then stands at its start, or where it was if none came.
+    // One step back. "gives back each sheet as the very part of the book that holds it": by where
+    // it starts and ends there. The reader then stands at its start, or where it was if none came.
     pub fn back<'s>(&'s mut self) -> Back
         ensures { λ r. ⌜ StepsBack (now (self .entry)) r (now (self .exit)) ⌝ }
     {

@@ -1,5 +1,7 @@
--- `opened` meets its contract: a walk of its MIR, by hand. A `Reader` is made of the slice passed and its length, in the result's local.
--- A `&[u8]` is Copy, so what it owns is had twice: once for the parameter at exit, and once inside the result, beside the facts of the place.
+-- `opened` meets its contract: a walk of its MIR, by hand. A `Reader` is made of the slice
+-- passed and its length, in the result's local.
+-- A `&[u8]` is Copy, so what it owns is had twice: once for the parameter at exit, and once
+-- inside the result, beside the facts of the place.
 -- Assumes nothing.
 use mathlib.Core.Path.{refl}
 use Prim.Native.Nat.{ℕ, _<_, _^_}
@@ -41,7 +43,8 @@ use Rattle.reader.proofs.opened.Code as code
 abbrev stayed : Stays (opened.ended .signature .params) (opened.ended .kept)
 stayed = (stay-none-slice (0 ∷ []) tt (plain (λ _. u8)) yes, tt)
 
-module _ {M : Type 1} (𝓤 : URA M) (H : Heap 𝓤) (A : Atoms 𝓤) (W : Given 𝓤 H A) (mem : Memory → SProp 𝓤) (run : Routine → Fun 𝓤) (κ : Lft) (q : Share) (s : RefT (List ℕ)) (fits : length (s .now) < 2 ^ 64) where
+module _ {M : Type 1} (𝓤 : URA M) (H : Heap 𝓤) (A : Atoms 𝓤) (W : Given 𝓤 H A) (mem : Memory → SProp 𝓤) (run : Routine → Fun 𝓤)
+    (κ : Lft) (q : Share) (s : RefT (List ℕ)) (fits : length (s .now) < 2 ^ 64) where
   abbrev α : NamedLft
   α = namedLft 1 0 tt (κ, tt)
 
@@ -60,28 +63,43 @@ module _ {M : Type 1} (𝓤 : URA M) (H : Heap 𝓤) (A : Atoms 𝓤) (W : Given
   exits : ent 𝓤 (onEntry 𝓤 H A opened.signature (κ, tt) (q, tt) (s, tt) at) (Post (T′.lowered made))
   exits =
       qed W ((‵ (flft κ q) ⊛ ‵ ftrue) ∷ ‵ (owns (ShrSlice (named 0) κ u8 ∷ []) (s, tt) at) ∷ []) ∵
-      suffices ! _ (ends-at 𝓤 H A opened.ended stayed (opened.clauses 𝓤 H A mem run) W (((κ, tt), (q, tt), tt, (s, tt), at), tt) (T′.lowered made) made (tt, tt) (tt, tt)) $ says ! refl $
-      frame ! $ fsplit ! $ use1 W (‵ Own ⊛ ‵ Own) (shr-slice-copy 𝓤 H A W (named 0) κ u8 .twice s (sliceAt s ∷ [])) $ split ! $ move ! (0 ∷ 2 ∷ []) $ fjoin ! $ frame ! $
+      suffices ! _ (ends-at 𝓤 H A opened.ended stayed (opened.clauses 𝓤 H A mem run) W (((κ, tt), (q, tt), tt, (s, tt), at), tt)
+      (T′.lowered made) made (tt, tt) (tt, tt)) $ says ! refl $
+      frame ! $ fsplit ! $ use1 W (‵ Own ⊛ ‵ Own) (shr-slice-copy 𝓤 H A W (named 0) κ u8 .twice s (sliceAt s ∷ [])) $ split ! $
+      move ! (0 ∷ 2 ∷ []) $ fjoin ! $ frame ! $
       -- [what book owns]: beside the place's facts it is what the struct owns
       by ! (reader-made 𝓤 H A W α s (length (s .now)) fits)
 
   module _ (C : Calls 𝓤 H) (Λ : Loops 𝓤 H) where
     walk : ent 𝓤 (onEntry 𝓤 H A opened.signature (κ, tt) (q, tt) (s, tt) at) (WpFn 𝓤 H C Λ code.function (sliceAt s ∷ []) Post)
     walk =
-        qed W (raw (onEntry 𝓤 H A opened.signature (κ, tt) (q, tt) (s, tt) at) ∷ []) ∵ enter ! C Λ code.function (sliceAt s ∷ []) _ $
-        alloc1 ! (λ l₀. alloc1 ! (λ l₁. alloc1 ! (λ l₂. alloc0 ! $ params1 ! $ pass1 ! (init ! 2 refl (tt, slice-typed s fits)) $ pass0 ! $
-        assigns ! (of-opd ! (load ! (from ! (fld ! refl (stop !))) (look-in ! 2 (sub ! 1 refl (whole !))))) (from ! (stop !)) (init ! 0 refl (tt, record { fits = fits })) $
-        assigns ! (agg ! (and-then ! (load ! (from ! (stop !)) (look ! 2 refl)) (and-then ! (load ! (from ! (stop !)) (look ! 0 refl)) (no-more !)))) (from ! (stop !)) (init ! 4 refl (tt, (slice-typed s fits, (record { fits = fits }, tt)))) $
-        returns ! (look ! 4 refl) $ forget ! 0 refl $ forget ! 2 refl $ forget ! 4 refl $ move ! (4 ∷ 5 ∷ []) $ free1 ! $ move ! (2 ∷ 3 ∷ []) $ free1 ! $ free1 ! $ free0 ! $ by ! exits)))
+        qed W (raw (onEntry 𝓤 H A opened.signature (κ, tt) (q, tt) (s, tt) at) ∷ []) ∵
+        enter ! C Λ code.function (sliceAt s ∷ []) _ $
+        alloc1 ! (λ l₀. alloc1 ! (λ l₁. alloc1 ! (λ l₂. alloc0 ! $ params1 ! $ pass1 ! (init ! 2 refl (tt, slice-typed s fits)) $
+        pass0 ! $
+        assigns ! (of-opd ! (load ! (from ! (fld ! refl (stop !))) (look-in ! 2 (sub ! 1 refl (whole !))))) (from ! (stop !))
+        (init ! 0 refl (tt, record { fits = fits })) $
+        assigns ! (agg ! (and-then ! (load ! (from ! (stop !)) (look ! 2 refl))
+        (and-then ! (load ! (from ! (stop !)) (look ! 0 refl)) (no-more !)))) (from ! (stop !))
+        (init ! 4 refl (tt, (slice-typed s fits, (record { fits = fits }, tt)))) $
+        returns ! (look ! 4 refl) $ forget ! 0 refl $ forget ! 2 refl $ forget ! 4 refl $ move ! (4 ∷ 5 ∷ []) $ free1 ! $
+        move ! (2 ∷ 3 ∷ []) $ free1 ! $ free1 ! $ free0 ! $ by ! exits)))
 
-module _ {M : Type 1} (𝓤 : URA M) (H : Heap 𝓤) (A : Atoms 𝓤) (W : Given 𝓤 H A) (mem : Memory → SProp 𝓤) (run : Routine → Fun 𝓤) where
-  opened-walks : (C : Calls 𝓤 H) (Λ : Loops 𝓤 H) → Walks 𝓤 H A opened.ended stayed (WpFn 𝓤 H C Λ code.function) (opened.clauses 𝓤 H A mem run)
-  opened-walks C Λ = walked 𝓤 H A opened.ended stayed (opened.clauses 𝓤 H A mem run) (WpFn 𝓤 H C Λ code.function) (λ κs. (slice-vals, tt)) (λ κs. (shr-slice-tells (named 0) (κs .0) u8, tt))
+module _ {M : Type 1} (𝓤 : URA M) (H : Heap 𝓤) (A : Atoms 𝓤) (W : Given 𝓤 H A) (mem : Memory → SProp 𝓤)
+    (run : Routine → Fun 𝓤) where
+  opened-walks : (C : Calls 𝓤 H) (Λ : Loops 𝓤 H) → Walks 𝓤 H A opened.ended stayed (WpFn 𝓤 H C Λ code.function)
+      (opened.clauses 𝓤 H A mem run)
+  opened-walks C Λ = walked 𝓤 H A opened.ended stayed (opened.clauses 𝓤 H A mem run) (WpFn 𝓤 H C Λ code.function)
+      (λ κs. (slice-vals, tt)) (λ κs. (shr-slice-tells (named 0) (κs .0) u8, tt))
       (λ κs qs bounds a g are. via 𝓤 _ (fst∗ 𝓤 _ (emp 𝓤)) (walk 𝓤 H A W mem run (κs .0) (qs .0) (a .0) (are .0 .0 .1 .0) C Λ))
 
-opened-meets : {M : Type 1} (𝓤 : URA M) (H : Heap 𝓤) (A : Atoms 𝓤) → Given 𝓤 H A → (mem : Memory → SProp 𝓤) (run : Routine → Fun 𝓤) (𝓣 : Tables 𝓤 H)
+opened-meets : {M : Type 1} (𝓤 : URA M) (H : Heap 𝓤) (A : Atoms 𝓤) → Given 𝓤 H A
+    → (mem : Memory → SProp 𝓤) (run : Routine → Fun 𝓤) (𝓣 : Tables 𝓤 H)
     → Meets 𝓤 H A opened.signature (WpFn 𝓤 H (𝓣 .C) (𝓣 .Λ) code.function) (opened.spec 𝓤 H A mem run)
-opened-meets 𝓤 H A W mem run 𝓣 = walk-meets 𝓤 H A opened.ended stayed W (goes-none-slice 𝓤 H A W 1 (0 ∷ []) tt (plain (λ _. u8)) yes, tt) (opened.clauses 𝓤 H A mem run) (WpFn 𝓤 H (𝓣 .C) (𝓣 .Λ) code.function) (WpFn-mono 𝓤 H (W .laws) 𝓣 code.function) (opened-walks 𝓤 H A W mem run (𝓣 .C) (𝓣 .Λ))
+opened-meets 𝓤 H A W mem run 𝓣 =
+    walk-meets 𝓤 H A opened.ended stayed W (goes-none-slice 𝓤 H A W 1 (0 ∷ []) tt (plain (λ _. u8)) yes, tt)
+    (opened.clauses 𝓤 H A mem run) (WpFn 𝓤 H (𝓣 .C) (𝓣 .Λ) code.function) (WpFn-mono 𝓤 H (W .laws) 𝓣 code.function)
+    (opened-walks 𝓤 H A W mem run (𝓣 .C) (𝓣 .Λ))
 
 pub opened-spec : {M : Type 1} → stated.statement M
 unfolding code.routine tablesOf
