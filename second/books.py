@@ -65,7 +65,7 @@ def reached(book: bytes) -> Dict[int, Optional[Part]]:
     return ways
 
 
-@functools.lru_cache(maxsize=32)
+@functools.lru_cache(maxsize=2048)
 def parts(book: bytes) -> Optional[Tuple[Part, ...]]:
     """The sheets of a book, from the front: "Keep sent sheets end to end in one lent book".
 

@@ -1,4 +1,4 @@
-"""For a tool that gives a program many records in one run, made from a fixed and from a fresh seed."""
+"""For a tool that gives a program many records in one run, from a fixed and from a fresh seed."""
 import random
 import subprocess
 import sys
@@ -37,7 +37,7 @@ def lots(rows, size, most):
 
 
 def lines(program, given):
-    """All lines that the program prints. What else comes makes a line of its own, and so differs."""
+    """The lines that the program prints. What else comes makes a line of its own."""
     command = [sys.executable, '-B', program] if program.suffix == '.py' else [program]
     try:
         ran = subprocess.run(command, input=given, stdout=subprocess.PIPE, timeout=PATIENCE)
