@@ -18,7 +18,7 @@ def empty(turn):
 
 
 def filling():
-    """A good book that fills the input, with `c` and its length before and `c` of no bytes behind."""
+    """A good book that fills the input, with `c` and its length before it and a short `c` after."""
     room = INPUT - 2 * len(Call('c', b'').record())
     full = room // 396
     opens = [Entry(cell, None) for cell in range(64)]

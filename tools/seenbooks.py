@@ -20,8 +20,8 @@ def of_sheets(call, said):
 
 
 def of_wrong_book(book):
-    """One alone is not so: "every sheet is, all have the same desks and cells, and turn numbers rise
-    by 1"."""
+    """One alone is not so: "every sheet is, all have the same desks and cells, and turn numbers
+    rise by 1"."""
     cut = books.parts(book)
     row = [one.sheet for one in cut or []]
     steps = list(zip(row, row[1:]))
