@@ -176,7 +176,7 @@ def in_entries(rng):
     entries.append(Entry(low[-1], day_of(6 * inner, 0, inner, sender)))
     entries.append(Entry(desks, day_of(0, 0, *number[:2])))
     entries.append(Entry(last, some_day(rng) or 0))
-    sent = row(rng, 1)
+    sent = row(rng, 1)[:2]
     at = one_of(rng, sent)
     cells = max(64 - rng.randint(0, 20), last + 1)
     sent = [sheet_at(rng, s.desks, cells, s.turn) for s in sent]
@@ -301,8 +301,9 @@ def calls_on(rng, pieces):
     yield from (some_add(rng, pieces) for _ in range(2))
 
 
-KINDS = [good] * 6 + [byte_changed] * 2 + [damaged, cut_behind, cut_before, zeros_behind, noisy]
-KINDS += [swapped, repeated, left_out, mixed, mixed, numbers_off, wrapped, in_entries, across]
+KINDS = [good] * 6 + [byte_changed, damaged, cut_behind, cut_before, zeros_behind, noisy]
+KINDS += [swapped, repeated, left_out, mixed, numbers_off, wrapped, across]
+KINDS += [byte_changed, mixed, in_entries, in_entries]
 
 
 def calls(seed):
