@@ -3,7 +3,7 @@ import sheets
 from books import Call
 from sheets import Entry, Sheet
 
-INPUT = 1_048_576  # the most that the program reads
+INPUT = 524_288  # the most that the program reads
 GREATEST = sheets.MOST_TURN
 
 # Document 01's example 1; and three opens, whose bytes 2 to 14 are a sheet of another shelf.
@@ -35,7 +35,7 @@ def added(room, length, sheet, answer, after=None):
 def looked():
     """Calls that change nothing, each with all that must be printed for it."""
     good, skips, zeros = E1 + empty(1), E1 + empty(2), E1 + bytes(12)
-    yield Call('c', filling()), 'sheets 2648'
+    yield Call('c', filling()), 'sheets 1324'
     yield Call('c', b''), 'sheets 0'
     yield Call('s', b''), 'end'
     yield Call('s', b'\0'), 'refused 23\nend'

@@ -1,18 +1,25 @@
 -- Laws of `laidOver` (specs/Laying.antt).
+--   drop-take                      a part of a list is the same, cut from the front or from the end first
 --   laid, no-room                  with room the bytes are laid; without it nothing is
 --   laid-next                      what is laid right behind what was laid at the front is laid at the front too: two puts are one
 --   laid-behind                    the same anywhere in a buffer: what is laid right behind what was laid is laid with it
 --   PutSoFar, put-begun, put-turned, put-ended    the loop that lays bytes
 -- Assumes nothing.
 use mathlib.Core.Path.{_≡_, refl, sym, ap, _∙_}
-use mathlib.Core.List.{List, _++_, append-assoc}
-use Prim.Native.Nat.{ℕ, _+_, _<_, _≤_}
+use mathlib.Core.List.{List, [], _∷_, _++_, append-assoc}
+use Prim.Native.Nat.{ℕ, zero, suc, _+_, _<_, _≤_}
 use native.Mathlib.Omega.{arith}
+use native.Mathlib.Nat.{zero-add, suc-add}
 use native.Mathlib.Numerals.{add-one}
 use lib.ListN.{length, getD, set, take, drop, length-append, length-set, length-drop}
-use lib.Seq.{paste, paste-zero, paste-suc, length-take-le, take-all, take-append-seam, drop-append-add, drop-drop}
+use lib.Seq.{paste, paste-zero, paste-suc, length-take-le, take-all, take-nil, take-append-seam, drop-append-add, drop-drop}
 use borrow.Author.Tests.{le-leb, lt-leb}
 use Rattle.laying.specs.Laying.{laidOver}
+
+pub drop-take : (n k : ℕ) (l : List ℕ) → drop n (take (n + k) l) ≡ take k (drop n l)
+drop-take zero k l = ap (λ (i : ℕ). take i l) (zero-add k)
+drop-take (suc n) k [] = ap (drop (suc n)) (take-nil (suc n + k)) ∙ sym (take-nil k)
+drop-take (suc n) k (x ∷ l) = ap (λ (i : ℕ). drop (suc n) (take i (x ∷ l))) (suc-add n k) ∙ drop-take n k l
 
 module _ (b : List ℕ) (at : ℕ) (x : List ℕ) where
   pub laid : at + length x ≤ length b → laidOver b at x ≡ take at b ++ x ++ drop (at + length x) b

@@ -1,6 +1,7 @@
 -- Laws of `readingOf`, `saidRead` and `entryAt` (specs/Reading.antt).
 --   readings                     a set for `search`: what `read` knows at each of its returns, and what it then answers
 --   good-read, bad-read          what reading gives, by `good` alone
+--   said-good, said-bad          what a reading says of `good`
 --   saidRead-tells-apart : ReadingsApart (specs/Promises.antt)
 --   entries-in-place : EntriesInPlace (specs/Promises.antt)
 -- Assumes nothing.
@@ -80,6 +81,25 @@ found s (reading.Refused k) = refl
 
 pub saidRead-tells-apart : ReadingsApart
 saidRead-tells-apart s a b = apart (saidRead s) (again reading.Refused numbered) (found s)
+
+-- ---- what a reading says of `good`
+
+module _ (s : List ℕ) (r : Reading) where
+  pub said-good : (n : Numbers) → r ≡ reading.Good n → saidRead s r ≡ readingOf s → (good s ≡ true) × (n ≡ numbersOf (trailerIn s))
+  said-good n is saidAnswer = by-test (good s) refl
+    where
+      by-test : (g : Bool) → good s ≡ g → (good s ≡ true) × (n ≡ numbersOf (trailerIn s))
+      by-test true g =
+          let same : r ≡ reading.Good (numbersOf (trailerIn s)) = saidRead-tells-apart s r (reading.Good (numbersOf (trailerIn s))) (saidAnswer ∙ good-read s g) in
+          (g, cc)
+      by-test false g = let e = bad-read s g in let z : _≡_ {A = ℕ} 0 1 = cc in absurd (omega arith)
+
+  pub said-bad : (k : ℕ) → r ≡ reading.Refused k → saidRead s r ≡ readingOf s → good s ≡ false
+  said-bad k is saidAnswer = by-test (good s) refl
+    where
+      by-test : (g : Bool) → good s ≡ g → good s ≡ false
+      by-test true g = let e = good-read s g in let z : _≡_ {A = ℕ} 0 1 = cc in absurd (omega arith)
+      by-test false g = g
 
 -- ---- entries where they stand
 

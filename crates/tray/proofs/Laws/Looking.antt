@@ -1,7 +1,6 @@
 -- Laws of `free`, `holdsGood` and `placeOf` (specs/Tray.antt), as the code goes.
 --   no-byte                                   past the end there is no byte, and 0 says so
 --   place-free, place-holds, place-spoilt     what a look finds, by `free` and `holdsGood` alone
---   said-good, said-bad                       what a reading says of `good`
 --   BySheet, looks                            a set for `search`: what `look` knows before it reads the sheet, and what it answers, or that the sheet decides
 --   look-holds, look-refused                  what it answers when the sheet was read
 -- Assumes nothing.
@@ -20,7 +19,7 @@ use Rattle.sheet.specs.declared.Reading.{Reading}
 use Rattle.sheet.specs.declared.Reading.the-variants as reading
 use Rattle.sheet.specs.Good.{good}
 use Rattle.sheet.specs.Reading.{readingOf, saidRead}
-use Rattle.sheet.proofs.Laws.Reading.{good-read, bad-read, saidRead-tells-apart}
+use Rattle.sheet.proofs.Laws.Reading.{said-good, said-bad}
 use Rattle.tray.specs.declared.Place.the-variants as place
 use Rattle.tray.specs.Tray.{placeStart, lengthAt, free, sheetAt, restAt, zeros, holdsGood, placeOf}
 
@@ -41,25 +40,6 @@ module _ (tray : List ℕ) (q : ℕ) where
   pub place-spoilt : free tray q ≡ false → holdsGood tray q ≡ false → placeOf tray q ≡ place.Spoilt
   unfolding placeOf
   place-spoilt f h = rw (f, h)
-
--- ---- what a reading says of `good`
-
-module _ (s : List ℕ) (r : Reading) where
-  pub said-good : (n : Numbers) → r ≡ reading.Good n → saidRead s r ≡ readingOf s → (good s ≡ true) × (n ≡ numbersOf (trailerIn s))
-  said-good n is saidAnswer = by-test (good s) refl
-    where
-      by-test : (g : Bool) → good s ≡ g → (good s ≡ true) × (n ≡ numbersOf (trailerIn s))
-      by-test true g =
-          let same : r ≡ reading.Good (numbersOf (trailerIn s)) = saidRead-tells-apart s r (reading.Good (numbersOf (trailerIn s))) (saidAnswer ∙ good-read s g) in
-          (g, cc)
-      by-test false g = let e = bad-read s g in let z : _≡_ {A = ℕ} 0 1 = cc in absurd (omega arith)
-
-  pub said-bad : (k : ℕ) → r ≡ reading.Refused k → saidRead s r ≡ readingOf s → good s ≡ false
-  said-bad k is saidAnswer = by-test (good s) refl
-    where
-      by-test : (g : Bool) → good s ≡ g → good s ≡ false
-      by-test true g = let e = good-read s g in let z : _≡_ {A = ℕ} 0 1 = cc in absurd (omega arith)
-      by-test false g = g
 
 -- ---- as the code goes
 

@@ -15,14 +15,9 @@ use lib.ListN.{length, getD, take, drop, length-append, length-drop, take-append
 use lib.Seq.{length-take-le, take-nil, take-append-le, take-at, drop-append-le, drop-append-add, drop-at, drop-drop, take-take, getD-take, getD-drop}
 use borrow.Author.Tests.{leb-true, leb-false}
 use Rattle.laying.specs.Laying.{laidOver}
-use Rattle.laying.proofs.Laws.{laid, no-room}
+use Rattle.laying.proofs.Laws.{drop-take, laid, no-room}
 
 -- ---- parts of parts
-
-drop-take : (n k : ℕ) (l : List ℕ) → drop n (take (n + k) l) ≡ take k (drop n l)
-drop-take zero k l = ap (λ (i : ℕ). take i l) (zero-add k)
-drop-take (suc n) k [] = ap (drop (suc n)) (take-nil (suc n + k)) ∙ sym (take-nil k)
-drop-take (suc n) k (x ∷ l) = ap (λ (i : ℕ). drop (suc n) (take i (x ∷ l))) (suc-add n k) ∙ drop-take n k l
 
 module _ (l : List ℕ) (size from i : ℕ) where
   pub part-of : (m : ℕ) → i + m ≤ size → take m (drop i (take size (drop from l))) ≡ take m (drop (from + i) l)
