@@ -42,7 +42,7 @@ def part(book: bytes, start: int, end: int) -> Optional[Part]:
 
 
 def step_back(book: bytes, place: int) -> Optional[Part]:
-    """The sheet that ends at this place: "the sheet before ends there"."""
+    """The good sheet that ends at this place of any bytes: "the sheet before ends there"."""
     # "A step back gives none at the front or where no good sheet ends"
     tried = [part(book, place - length, place) for length in LENGTHS]
     found = [one for one in tried if one is not None]
@@ -65,7 +65,7 @@ def reached(book: bytes) -> Dict[int, Optional[Part]]:
     return ways
 
 
-@functools.lru_cache(maxsize=2048)
+@functools.lru_cache(maxsize=2048)  # as one book is asked about more than once
 def parts(book: bytes) -> Optional[Tuple[Part, ...]]:
     """The sheets of a book, from the front: "Keep sent sheets end to end in one lent book".
 
@@ -114,6 +114,8 @@ def lookup(book: bytes, cell: int) -> Optional[Tuple[Optional[int], int]]:
     # "6 | cell not below m"
     if cell >= cells:
         raise Refused(6)
+    # "A step back gives none at the front or where no good sheet ends, and the lookup's answer is
+    # then blank": a good book gives none at the front alone, when no sheet has had an entry.
     # "The content found must equal laying all sheets on a blank shelf from the front."
     shelf: List[Optional[Tuple[Optional[int], int]]] = [None] * cells
     for one in laid:

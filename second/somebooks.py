@@ -15,7 +15,7 @@ from somesheets import DAMAGE, LAST_TURN, noise, other_byte, some_day, some_entr
 
 BITS_32, BITS_64 = 2**32, 2**64
 BEYOND_16_BITS = 65_536
-ROUNDS_PER_LONG = 20  # long books are dear: one in so many rounds
+ROUNDS_PER_LONG = 15  # long books are dear: one in so many rounds
 
 
 # Good books.
@@ -44,8 +44,8 @@ def row(rng, least=0):
     return [sheet_at(rng, desks, cells, first + k) for k in range(count)]
 
 
-def written(row):
-    return [sheets.write(sheet) for sheet in row]
+def written(sent):
+    return [sheets.write(sheet) for sheet in sent]
 
 
 def good(rng):
@@ -115,13 +115,13 @@ def repeated(rng):
 
 
 def left_out(rng):
-    pieces = written(row(rng, 2))
+    pieces = written(row(rng, 3))
     del pieces[one_of(rng, pieces)]
     return pieces
 
 
 def mixed(rng):
-    """One sheet, or all from one on, of another shelf: other desks, other cells or both."""
+    """One sheet, or all from it on or before it, of another shelf: other desks or cells or both."""
     sent = row(rng, 2)
     k, differ = one_of(rng, sent), rng.choice(["desks", "cells", "both"])
     desks = sent[0].desks if differ == "cells" else sent[0].desks % 16 + 1
@@ -150,7 +150,7 @@ def wrapped(rng):
     return written(sheet_at(rng, desks, cells, turn) for turn in turns)
 
 
-# Books with the bytes of a good sheet inside another sheet. The outer sheet comes as three pieces.
+# Books with the bytes of a good sheet inside another sheet, which comes in pieces, cut at its ends.
 
 
 def day_of(*low_first):
@@ -167,16 +167,16 @@ def in_entries(rng):
     desks = rng.randint(before + inner + 1, 16)
     low = sorted(rng.sample(range(desks), before + inner + 1))
     last = rng.randint(desks + 1, 40)
-    turn = (rng.randrange(256), rng.randrange(256), last, 2)
-    sender = int.from_bytes(bytes(turn), "little") % desks
+    number = bytes([rng.randrange(256), rng.randrange(256), last, 2])
+    sender = int.from_bytes(number, "little") % desks
     entries = [Entry(low[k], some_day(rng) or 0) for k in range(before)]
     for k in range(inner):
         cell = k if inner == 2 else rng.randrange(2)
         entries.append(Entry(low[before + k], day_of(cell, 2, rng.randrange(256), 0)))
     entries.append(Entry(low[-1], day_of(6 * inner, 0, inner, sender)))
-    entries.append(Entry(desks, day_of(0, 0, *turn[:2])))
+    entries.append(Entry(desks, day_of(0, 0, *number[:2])))
     entries.append(Entry(last, some_day(rng) or 0))
-    sent = row(rng, 1)
+    sent = row(rng, 1)[:2]
     at = one_of(rng, sent)
     cells = max(64 - rng.randint(0, 20), last + 1)
     sent = [sheet_at(rng, s.desks, cells, s.turn) for s in sent]
@@ -216,16 +216,17 @@ def split(rng, pieces, at, places):
 
 
 def long(rng):
-    """More bytes than 16 bits can count, most sheets full; sometimes wrong far in the front."""
+    """More bytes than 16 bits can count, most sheets long; sometimes wrong far in the front."""
     desks, first = some_desks(rng), rng.randint(0, BITS_32 // 2)
+    full = [Entry(cell, some_day(rng)) for cell in range(64)]
     pieces, size = [], 0
     while size <= BEYOND_16_BITS:
-        days = [Entry(cell, some_day(rng)) for cell in range(64)]
         turn = first + len(pieces)
-        entries = rng.choice([days, days, days[::2], []])
+        entries = rng.choice([full, full[::2], full[1::3], []])
         pieces.append(sheets.write(Sheet(turn % desks, desks, 64, turn, entries)))
         size += len(pieces[-1])
-    return rng.choice([pieces, pieces, pieces[:1] + pieces[2:], [pieces[0][1:]] + pieces[1:]])
+    wrong = rng.choice([pieces[:1] + pieces[2:], [pieces[0][1:]] + pieces[1:]])
+    return rng.choice([pieces, pieces, wrong])
 
 
 # Calls.
@@ -300,8 +301,9 @@ def calls_on(rng, pieces):
     yield from (some_add(rng, pieces) for _ in range(2))
 
 
-KINDS = [good] * 6 + [byte_changed] * 2 + [damaged, cut_behind, cut_before, zeros_behind, noisy]
-KINDS += [swapped, repeated, left_out, mixed, mixed, numbers_off, wrapped, in_entries, across]
+KINDS = [good] * 6 + [byte_changed, damaged, cut_behind, cut_before, zeros_behind, noisy]
+KINDS += [swapped, repeated, left_out, mixed, numbers_off, wrapped, across]
+KINDS += [byte_changed, mixed, in_entries, in_entries]
 
 
 def calls(seed):

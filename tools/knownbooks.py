@@ -18,13 +18,17 @@ def empty(turn):
 
 
 def filling():
-    """A good book that fills the input, with `c` and its length before and `c` of no bytes behind."""
-    room = INPUT - 2 * len(Call('c', b'').record())
-    full = room // 396
+    """Calls that fill the input to its last byte: a good book, and books of no bytes behind it."""
+    short = Call('c', b'')
+    # All lengths of books are multiples of 6, so that some number of short calls makes it even.
+    behind = next(k for k in range(1, 7) if (INPUT - (k + 1) * len(short.record())) % 6 == 0)
+    room = INPUT - (behind + 1) * len(short.record())
     opens = [Entry(cell, None) for cell in range(64)]
-    rest = opens[:(room - 396 * full - 12) // 6]
-    row = [Sheet(0, 1, 64, turn, opens) for turn in range(full)] + [Sheet(0, 1, 64, full, rest)]
-    return b''.join(map(sheets.write, row))
+    full = room // 396
+    sizes = [64] * full + [(room - 396 * full - 12) // 6]
+    row = [Sheet(0, 1, 64, turn, opens[:size]) for turn, size in enumerate(sizes)]
+    yield Call('c', b''.join(map(sheets.write, row))), f'sheets {full + 1}'
+    yield from [(short, 'sheets 0')] * behind
 
 
 def added(room, length, sheet, answer, after=None):
@@ -35,8 +39,6 @@ def added(room, length, sheet, answer, after=None):
 def looked():
     """Calls that change nothing, each with all that must be printed for it."""
     good, skips, zeros = E1 + empty(1), E1 + empty(2), E1 + bytes(12)
-    yield Call('c', filling()), 'sheets 1324'
-    yield Call('c', b''), 'sheets 0'
     yield Call('s', b''), 'end'
     yield Call('s', b'\0'), 'refused 23\nend'
     yield Call('s', good), '18 30 1 1 0\n0 18 0 0 1\nend'
@@ -78,8 +80,8 @@ def addings():
 
 
 def known():
-    """All of them. The first two fill the input to its last byte."""
-    return [*looked(), *addings()]
+    """All of them; the first ones are given together, in an input that they fill."""
+    return [*filling(), *looked(), *addings()]
 
 
 def endings():

@@ -40,7 +40,8 @@ def lines(program, given):
     """The lines that the program prints. What else comes makes a line of its own."""
     command = [sys.executable, '-B', program] if program.suffix == '.py' else [program]
     try:
-        ran = subprocess.run(command, input=given, stdout=subprocess.PIPE, timeout=PATIENCE)
+        ran = subprocess.run(command, input=given, stdout=subprocess.PIPE,
+                             stderr=subprocess.DEVNULL, timeout=PATIENCE)
     except subprocess.TimeoutExpired:
         return [f'(no end within {PATIENCE} seconds)']
     except OSError as wrong:

@@ -20,8 +20,8 @@ def of_sheets(call, said):
 
 
 def of_wrong_book(book):
-    """One alone is not so: "every sheet is, all have the same desks and cells, and turn numbers rise
-    by 1"."""
+    """One alone is not so: "every sheet is, all have the same desks and cells, and turn numbers
+    rise by 1"."""
     cut = books.parts(book)
     row = [one.sheet for one in cut or []]
     steps = list(zip(row, row[1:]))
@@ -95,12 +95,16 @@ def of_lookup(call, said):
 def of_step(call, said):
     """`b`"""
     none, size = said == ['none'], len(call.book)
-    good = books.is_good(call.book)
-    ends = [one.end for one in books.parts(call.book) or []]
+    good, cut = books.is_good(call.book), books.parts(call.book) or ()
+    ends = [one.end for one in cut]
+    start = size if none else int(said[0].split()[0])
+    inside = any(one.start < start and call.number < one.end for one in cut)
+    other = not none and good and call.number not in ends
     return {
         'the last sheet of a good book': not none and good and call.number == size,
         'another sheet of a good book': not none and good and call.number in ends[:-1],
-        'a sheet across sheets of a good book': not none and good and call.number not in ends,
+        'a sheet inside a sheet of a good book': other and inside,
+        'a sheet across two of a good book': other and not inside,
         'a sheet of a book not good': not none and not good,
         'none at the front': none and call.number == 0,
         'none inside': none and 0 < call.number < size,
