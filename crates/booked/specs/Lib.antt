@@ -1,0 +1,6 @@
+pub mod OneList
+pub mod Stepping
+pub mod Laid
+pub mod Lookups
+pub mod Adding
+pub mod OfARun
