@@ -1,2 +1,5 @@
 pub mod Sheets
+pub mod Good
 pub mod Stepping
+pub mod Examining
+pub mod Lookup

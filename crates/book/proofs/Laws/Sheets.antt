@@ -1,6 +1,7 @@
 -- Laws of `sheetsOf` (specs/Sheets.antt).
 --   start-within, before-long      where the last sheet starts, and how long what stands before it is
 --   sheets-none, sheets-cut        no bytes have no sheets; other bytes have a last sheet, and those of what stands before it
+--   sheets-few                     no more sheets than bytes
 --   sheets-behind                  a good sheet behind bytes is the last of them, whatever they are
 -- Assumes nothing.
 use mathlib.Core.Path.{_≡_, refl, sym, ap, _∙_}
@@ -63,6 +64,19 @@ module _ (b : List ℕ) where
       enough (length b) (suc (length b)) b (omega arith) (omega arith)
       ∙ cut-back b (length b) h
       ∙ ap (λ (ss : List (List ℕ)). lastSheet b ∷ ss) (enough (length b) (length (before b)) (before b) (omega (arith, before-long b)) (omega arith))
+
+few-back : (k : ℕ) (b : List ℕ) → length (sheetsBack k b) ≤ k
+unfolding sheetsBack
+few-back zero b = omega arith
+few-back (suc k) b = by-test (few-back k (before b)) (eqb (length b) 0)
+  where
+    by-test : length (sheetsBack k (before b)) ≤ k → (t : Bool) → length (cond t [] (lastSheet b ∷ sheetsBack k (before b))) ≤ suc k
+    by-test few true = omega arith
+    by-test few false = omega arith
+
+pub sheets-few : (b : List ℕ) → length (sheetsOf b) ≤ length b
+unfolding sheetsOf
+sheets-few b = few-back (length b) b
 
 -- ---- a good sheet behind bytes
 

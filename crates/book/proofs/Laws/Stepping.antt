@@ -1,6 +1,9 @@
 -- Laws of `stepBack` (specs/Stepping.antt).
 --   part-is                        the last sheet up to a place is a part of the book
---   step-given, step-none          what a step gives, by `good` alone
+--   step-sheet, step-none          what a step gives, by `good` alone
+--   steps, step-good, step-bad     the code of a step: a set for `search`, and what it answers when the sheet was read
+--   Stepped, stepped               what is so where a step gave a sheet: it is the last of those up to the place, and the others end at its start
+--   stepped-none                   where it gave none within the book, the last sheet up to the place is not good
 -- Assumes nothing.
 use mathlib.Core.Path.{_≡_, refl, sym, ap, _∙_, subst}
 use mathlib.Core.Bool.{Bool, true, false, cond, _&&_, and-false}
@@ -9,8 +12,8 @@ use Prim.Native.Nat.{ℕ, zero, suc, _+_, _-_, _<_, _≤_}
 use native.Mathlib.Omega.{arith}
 use lib.Dec.{leb}
 use lib.ListN.{length, take, drop, getD, length-drop}
-use lib.Seq.{length-take-le, getD-take, getD-drop}
-use borrow.Author.Tests.{le-leb, lt-leb}
+use lib.Seq.{length-take-le, take-take, getD-take, getD-drop}
+use borrow.Author.Tests.{le-leb, lt-leb, leb-true, leb-false}
 use Rattle.numbers.specs.Numbers.{num, at1}
 use Rattle.layout.specs.declared.Numbers.{Numbers}
 use Rattle.layout.specs.Layout.{trailerIn}
@@ -23,10 +26,10 @@ use Rattle.sheet.proofs.Laws.Good.{too-short-is-bad, good-is-long, good-trailer
 use Rattle.sheet.proofs.Laws.Reading.{said-good, said-bad}
 use Rattle.book.specs.declared.Back.{Back}
 use Rattle.book.specs.declared.Back.the-variants as back
-use Rattle.book.specs.Sheets.{lastStart, lastSheet}
+use Rattle.book.specs.Sheets.{lastStart, lastSheet, sheetsOf}
 use Rattle.book.specs.Good.{numbersIn}
 use Rattle.book.specs.Stepping.{partOf, stepBack}
-use Rattle.book.proofs.Laws.Sheets.{start-within}
+use Rattle.book.proofs.Laws.Sheets.{start-within, sheets-cut}
 
 module _ (b : List ℕ) (place : ℕ) where
   abbrev up-to : List ℕ
@@ -101,3 +104,61 @@ module _ (b : List ℕ) (place : ℕ) where
         step-bad k e = step-none (said-bad (lastSheet up-to) r k e is-said)
 
 pub ruleset steps = (step-beyond, step-short, step-far)
+
+-- ---- what a step tells
+
+pub record Stepped (b : List ℕ) (place start end : ℕ) (n : Numbers) : Type 0 where
+  pub within : place ≤ length b
+  pub ends : end ≡ place
+  pub starts : start + 12 ≤ place
+  pub is-good : good (partOf b start place) ≡ true
+  pub numbers-are : n ≡ numbersIn (partOf b start place)
+  pub sheets-are : sheetsOf (take place b) ≡ partOf b start place ∷ sheetsOf (take start b)
+
+module _ (b : List ℕ) (place : ℕ) where
+  abbrev reached : List ℕ
+  reached = take place b
+
+  -- a good last sheet up to a place
+  good-last : place ≤ length b → good (lastSheet reached) ≡ true → Stepped b place (lastStart reached) place (numbersIn (lastSheet reached))
+  good-last within g =
+      let start = lastStart reached in
+      let same : lastSheet reached ≡ partOf b start place = part-is b place within in
+      let size : length (lastSheet reached) ≡ length reached - start = length-drop start reached in
+      let tall : length reached ≡ place = length-take-le place b within in
+      let far : start + 12 ≤ place = omega (arith, good-is-long (lastSheet reached) g, size, tall) in
+      record {
+        within = within;
+        ends = refl;
+        starts = far;
+        is-good = sym (ap good same) ∙ g;
+        numbers-are = ap numbersIn same;
+        sheets-are =
+            sheets-cut reached (omega (arith, tall))
+            ∙ ap (λ (s : List ℕ). s ∷ sheetsOf (take start reached)) same
+            ∙ ap (λ (l : List ℕ). partOf b start place ∷ sheetsOf l) (take-take start place b (omega arith));
+      }
+
+  module _ (r : Back) (is : r ≡ stepBack b place) where
+    pub stepped : (start end : ℕ) (n : Numbers) → r ≡ back.Sheet start end n → Stepped b place start end n
+    unfolding stepBack
+    stepped start end n e = by-test (leb place (length b)) refl (good (lastSheet reached)) refl
+      where
+        by-test : (t : Bool) → leb place (length b) ≡ t → (g : Bool) → good (lastSheet reached) ≡ g → Stepped b place start end n
+        by-test true t true g =
+            let same : back.Sheet start end n ≡ back.Sheet (lastStart reached) place (numbersIn (lastSheet reached)) = sym e ∙ is ∙ step-sheet b place (leb-true place (length b) t) g in
+            let starts : lastStart reached ≡ start = cc in
+            let ends : place ≡ end = cc in
+            let numbers : numbersIn (lastSheet reached) ≡ n = cc in
+            subst (λ (x : ℕ). Stepped b place x end n) starts
+            (subst (λ (x : ℕ). Stepped b place (lastStart reached) x n) ends
+            (subst (λ (x : Numbers). Stepped b place (lastStart reached) place x) numbers (good-last (leb-true place (length b) t) g)))
+        by-test true t false g = let none : back.Sheet start end n ≡ back.None = sym e ∙ is ∙ sym (step-none b place g) in let z : _≡_ {A = ℕ} 0 1 = cc in absurd (omega arith)
+        by-test false t g x = let none : back.Sheet start end n ≡ back.None = sym e ∙ is ∙ sym (step-beyond b place (leb-false place (length b) t)) in let z : _≡_ {A = ℕ} 0 1 = cc in absurd (omega arith)
+
+    pub stepped-none : r ≡ back.None → place ≤ length b → good (lastSheet reached) ≡ false
+    stepped-none e within = by-test (good (lastSheet reached)) refl
+      where
+        by-test : (g : Bool) → good (lastSheet reached) ≡ g → good (lastSheet reached) ≡ false
+        by-test false g = g
+        by-test true g = let none : back.None ≡ back.Sheet (lastStart reached) place (numbersIn (lastSheet reached)) = sym e ∙ is ∙ step-sheet b place within g in let z : _≡_ {A = ℕ} 0 1 = cc in absurd (omega arith)

@@ -1,42 +1,37 @@
+-- `entry_on` meets its contract: what was passed over is another cell's (`HitSoFar`).
+-- Assumes nothing.
+use borrow.Author.Needs.{needs}
+use Prim.Native.Nat.{_-_}
+use Rattle.book.proofs.Laws.Lookup.{HitSoFar, hits}
 use Rattle.book.proofs.newest.entry_on.Statement.{statement}
 use Rattle.book.proofs.newest.entry_on.Tie as tie
-use Rattle.book.proofs.newest.entry_on.Reads as reads
-use Rattle.book.proofs.newest.entry_on.Lts as lts
-use Rattle.sheet.proofs.entry_at.Reads as entry-at-reads
 
 abbrev Inv-loop : tie.InvT-loop
-Inv-loop s count cell k₀ k = ?
+Inv-loop s count cell k₀ k = HitSoFar s count cell k
 
 abbrev μ-loop : tie.MeasureT-loop
-μ-loop s count cell k₀ k = ?
+μ-loop s count cell k₀ k = count - k
 
--- src/newest.rt:46:5
 loop-holds : tie.Need-loop-holds Inv-loop μ-loop
-loop-holds c = ?
+loop-holds c = search (hits, needs)
 
--- src/newest.rt:47:13
 entry-at-requires : tie.Need-entry-at-requires Inv-loop μ-loop
-entry-at-requires c κs = ?
+entry-at-requires c κs = search (hits, needs)
 
--- src/newest.rt:49:13
 returns : tie.Need-returns Inv-loop μ-loop
-returns c = ?
+returns c = search (hits, needs)
 
--- src/newest.rt:51:9
 add-k : tie.Need-add-k Inv-loop μ-loop
-add-k c = ?
+add-k c = search (hits, needs)
 
--- src/newest.rt:46:5
 loop-less : tie.Need-loop-less Inv-loop μ-loop
-loop-less c = ?
+loop-less c = search (hits, needs)
 
--- src/newest.rt:46:5
 loop-again : tie.Need-loop-again Inv-loop μ-loop
-loop-again c = ?
+loop-again c = search (hits, needs)
 
--- src/newest.rt:41:1
 returns-2 : tie.Need-returns-2 Inv-loop μ-loop
-returns-2 c = ?
+returns-2 c = search (hits, needs)
 
 pub entry-on-spec : {M : Type 1} → statement M
 entry-on-spec =
