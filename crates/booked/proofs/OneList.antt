@@ -5,14 +5,12 @@
 -- Assumes nothing.
 use mathlib.Core.Path.{_≡_, refl, sym, ap, _∙_}
 use mathlib.Core.Bool.{Bool, true, false}
-use mathlib.Core.List.{List, [], _∷_}
+use mathlib.Core.List.{List, []}
 use Prim.Native.Nat.{ℕ}
-use native.Mathlib.Omega.{arith}
 use lib.ListN.{length}
-use Rattle.answer.specs.Answer.{refused, answered}
+use Rattle.answer.specs.Answer.{refused}
 use Rattle.answer.proofs.Laws.{refused-is-not-answered}
-use Rattle.sheet.specs.Good.{good}
-use Rattle.book.specs.Sheets.{sheetsOf, endToEnd}
+use Rattle.book.specs.Sheets.{sheetsOf}
 use Rattle.book.specs.Good.{goodSheets, goodBook}
 use Rattle.book.specs.Counting.{countOf}
 use Rattle.book.proofs.Laws.Sheets.{sheets-none, sheets-behind}

@@ -6,7 +6,7 @@ use mathlib.Core.Logic.{_≢_, _↔_}
 use mathlib.Core.Bool.{true}
 use mathlib.Core.List.{List, [], _∷_}
 use Prim.Native.Nat.{ℕ}
-use lib.IntN.{ℤ, pos}
+use lib.IntN.{pos}
 use lib.ListN.{replicate}
 use Rattle.answer.specs.Answer.{Answer, answered}
 use Rattle.content.specs.declared.Content.{Content}

@@ -6,7 +6,7 @@
 use mathlib.Core.Path.{_≡_, ap, _∙_}
 use mathlib.Core.Bool.{true}
 use mathlib.Core.List.{List, [], _∷_, _++_}
-use Prim.Native.Nat.{ℕ, zero, suc, _≤_}
+use Prim.Native.Nat.{ℕ, zero, suc, _<_, _≤_}
 use native.Mathlib.Omega.{arith}
 use lib.ListN.{length, take-append-drop}
 use Rattle.numbers.proofs.Tests.{tested}
@@ -15,15 +15,18 @@ use Rattle.book.specs.Sheets.{lastStart, lastSheet, before, sheetsOf, endToEnd}
 use Rattle.book.specs.Good.{everySheet, goodSheets}
 use Rattle.book.proofs.Laws.Sheets.{before-long, sheets-none, sheets-cut, sheets-behind}
 
-whole-by : (k : ℕ) (b : List ℕ) → length b ≤ k → endToEnd (sheetsOf b) ≡ b
+whole-if : (b : List ℕ) → (0 < length b → endToEnd (sheetsOf (before b)) ≡ before b) → endToEnd (sheetsOf b) ≡ b
 unfolding endToEnd
-whole-by k [] h = ap endToEnd (sheets-none [] (omega arith))
-whole-by zero (x ∷ l) h = absurd (omega arith)
-whole-by (suc k) (x ∷ l) h =
+whole-if [] older = ap endToEnd (sheets-none [] (omega arith))
+whole-if (x ∷ l) older =
     let b : List ℕ = x ∷ l in
     ap endToEnd (sheets-cut b (omega arith))
-    ∙ ap (λ (older : List ℕ). older ++ lastSheet b) (whole-by k (before b) (omega (arith, before-long b)))
+    ∙ ap (λ (o : List ℕ). o ++ lastSheet b) (older (omega arith))
     ∙ take-append-drop (lastStart b) b
+
+whole-by : (k : ℕ) (b : List ℕ) → length b ≤ k → endToEnd (sheetsOf b) ≡ b
+whole-by zero b h = whole-if b (λ some. absurd (omega arith))
+whole-by (suc k) b h = whole-if b (λ some. whole-by k (before b) (omega (arith, before-long b)))
 
 pub whole-again : (b : List ℕ) → endToEnd (sheetsOf b) ≡ b
 whole-again b = whole-by (length b) b (omega arith)
