@@ -1,1 +1,4 @@
 pub mod Sheets
+pub mod Entries
+pub mod Newest
+pub mod Laying

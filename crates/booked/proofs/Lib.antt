@@ -1,3 +1,5 @@
 pub mod Laws
 pub mod OneList
 pub mod Stepping
+pub mod Lookups
+pub mod Laid

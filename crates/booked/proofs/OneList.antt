@@ -32,9 +32,10 @@ its-sheets : (b : List ℕ) (ss : List (List ℕ)) → GoodAs b ss → sheetsOf 
 its-sheets b ss a = ap sheetsOf (sym (a .end-to-end)) ∙ sheets-of ss (are-good ss (a .good-ones))
 
 pub good-exactly : GoodExactly goodBook
-good-exactly b =
-    (λ g. (sheetsOf b, record { end-to-end = whole-again b; good-ones = g }),
-     λ made. ap goodSheets (its-sheets b (made .0) (made .1)) ∙ made .1 .good-ones)
+good-exactly b = (
+  λ g. (sheetsOf b, record { end-to-end = whole-again b; good-ones = g }),
+  λ made. ap goodSheets (its-sheets b (made .0) (made .1)) ∙ made .1 .good-ones,
+)
 
 pub no-bytes-are-good : NoBytesAreGood goodBook
 unfolding goodSheets

@@ -46,16 +46,18 @@ module _ (b : List ℕ) (place start : ℕ) (ends : SheetEndsAt b place start) w
       ∙ ap (λ (s : List ℕ). Sheet start place (numbersIn s)) same
 
 pub step-gives : StepGives stepBack
-step-gives b place start end n =
-    (λ e.
-    let s = stepped b place (stepBack b place) refl start end n e in
-    (record { starts-before = omega (arith, s .starts); in-book = s .within; is-good = s .is-good }, s .ends, s .numbers-are),
-    λ given. gives-it b place start (given .0) ∙ sym (ap (λ (i : ℕ). Sheet start i n) (given .1) ∙ ap (Sheet start place) (given .2)))
+step-gives b place start end n = (
+  λ e.
+      let s = stepped b place (stepBack b place) refl start end n e in
+      (record { starts-before = omega (arith, s .starts); in-book = s .within; is-good = s .is-good }, s .ends, s .numbers-are),
+  λ given. gives-it b place start (given .0) ∙ sym (ap (λ (i : ℕ). Sheet start i n) (given .1) ∙ ap (Sheet start place) (given .2)),
+)
 
 pub step-none : StepNone stepBack
-step-none b place =
-    (λ e start ends. sheet-is-not-none start place (numbersIn (partOf b start place)) (sym (gives-it b place start ends) ∙ e),
-    λ none. by-step none (stepBack b place) refl)
+step-none b place = (
+  λ e start ends. sheet-is-not-none start place (numbersIn (partOf b start place)) (sym (gives-it b place start ends) ∙ e),
+  λ none. by-step none (stepBack b place) refl,
+)
   where
     by-step : ((start : ℕ) → SheetEndsAt b place start → ⊥) → (r : Back) → stepBack b place ≡ r → stepBack b place ≡ None
     by-step none None e = e
