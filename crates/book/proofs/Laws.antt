@@ -3,3 +3,4 @@ pub mod Good
 pub mod Stepping
 pub mod Examining
 pub mod Lookup
+pub mod Calls

@@ -1,11 +1,12 @@
 -- What the crate's own functions find. Nobody need believe it: the public promises are in the files beside it.
 -- Assumes nothing.
 use Prim.Native.Nat.{ℕ, _+_}
-use mathlib.Core.Bool.{Bool, true, false, cond, _&&_}
+use mathlib.Core.Bool.{Bool, true, false, cond, not, _&&_}
 use mathlib.Core.List.{List, [], _∷_}
 use mathlib.Core.Option.{Option, none, some}
-use lib.Dec.{eqb}
+use lib.Dec.{eqb, ltb}
 use lib.ListN.{length}
+use Rattle.answer.specs.Answer.{Answer, _if_, answer}
 use Rattle.layout.specs.declared.Entry.{Entry}
 use Rattle.layout.specs.declared.Numbers.{Numbers}
 use Rattle.sheet.specs.Good.{good}
@@ -19,7 +20,7 @@ use Rattle.book.specs.declared.Found.{Found}
 use Rattle.book.specs.declared.Found.the-variants as found
 use Rattle.book.specs.Sheets.{sheetsOf}
 use Rattle.book.specs.Good.{numbersIn, sameShelf, goodBook}
-use Rattle.book.specs.Lookup.{LastSet, blank, entry}
+use Rattle.book.specs.Lookup.{LastSet, blank, entry, newest}
 
 -- a sheet with the numbers o may stand before one of the newest's shelf with this turn number
 abbrev pub fitsBefore : Numbers → Numbers → ℕ → Bool
@@ -62,8 +63,6 @@ abbrev pub foundOf : LastSet → Found
 foundOf blank = found.Blank
 foundOf (entry c turn) = found.Entry c turn
 
--- the cells of such a book
-abbrev pub cellsIn : Examined → ℕ
-cellsIn examined.NotGood = 64
-cellsIn examined.Empty = 64
-cellsIn (examined.Sheets k newest) = newest .cells
+-- a lookup in a book of so many cells, once it is known to be good
+unfoldable pub findOf : List ℕ → ℕ → ℕ → Answer LastSet
+findOf b cell cells = answer (6 if not (ltb cell cells) ∷ []) (newest cell (untilNone (sheetsOf b)))

@@ -4,7 +4,7 @@ ghost use mathlib.Core.Path.{_≡_};
 ghost use Prim.Native.Nat.{_≤_};
 ghost use lib.ListN.{length, take};
 ghost use Rattle.book.specs.Sheets.{sheetsOf};
-ghost use Rattle.book.specs.Parts.{fitsBefore, olderOf, examinedOf, takesNext, cellsIn};
+ghost use Rattle.book.specs.Parts.{fitsBefore, olderOf, examinedOf, takesNext};
 use crate::Back;
 use layout::Numbers;
 
@@ -86,16 +86,5 @@ pub(crate) fn takes(seen: Examined, n: Numbers) -> bool
         Examined::NotGood => false,
         Examined::Empty => true,
         Examined::Sheets(_, newest) => fits_before(newest, n, n.turn),
-    }
-}
-
-// The cells of such a book: "a book of no bytes counts as having 64 cells".
-pub(crate) fn cells(seen: Examined) -> u8
-    ensures { λ r. ⌜ r ≡ cellsIn seen ⌝ }
-{
-    match seen {
-        Examined::NotGood => 64,
-        Examined::Empty => 64,
-        Examined::Sheets(_, newest) => newest.cells,
     }
 }

@@ -116,14 +116,11 @@ pub fn count(book: &[u8]) -> Counted
 pub fn lookup(book: &[u8], cell: u32) -> Found
     ensures { λ r. ⌜ saidFound r ≡ lookupOf (now (book .entry)) cell ⌝ }
 {
-    let seen = examined::examine(book);
-    if let Examined::NotGood = seen {
-        return Found::Refused(23);
+    match examined::examine(book) {
+        Examined::NotGood => Found::Refused(23),
+        Examined::Empty => newest::find(book, cell, 64),
+        Examined::Sheets(_, numbers) => newest::find(book, cell, numbers.cells),
     }
-    if (examined::cells(seen) as u32) <= cell {
-        return Found::Refused(6);
-    }
-    newest::entry(book, cell as u8)
 }
 
 // "A sheet is added at the end; other bytes stay": at the end of the book of this length, which stands

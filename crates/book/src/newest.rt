@@ -4,8 +4,8 @@ ghost use Prim.Native.Nat.{_+_, _*_, _≤_};
 ghost use lib.ListN.{length};
 ghost use Rattle.layout.specs.Layout.{entriesOf};
 ghost use Rattle.book.specs.Sheets.{sheetsOf};
-ghost use Rattle.book.specs.Lookup.{entryOn, newest};
-ghost use Rattle.book.specs.Parts.{hitOf, untilNone, foundOf};
+ghost use Rattle.book.specs.Lookup.{entryOn, newest, saidFound};
+ghost use Rattle.book.specs.Parts.{hitOf, untilNone, foundOf, findOf};
 use crate::Back;
 use crate::Found;
 use layout::Entry;
@@ -15,9 +15,19 @@ pub(crate) enum Hit {
     Entry(Entry),
 }
 
+// A lookup in a book of so many cells, which is known to be good. Refusal 6.
+pub(crate) fn find(book: &[u8], cell: u32, cells: u8) -> Found
+    ensures { λ r. ⌜ saidFound r ≡ findOf (now (book .entry)) cell cells ⌝ }
+{
+    if (cells as u32) <= cell {
+        return Found::Refused(6);
+    }
+    entry(book, cell as u8)
+}
+
 // "When a step back gives no sheet, the lookup ends at once with that answer." "the lookup's answer is
 // then blank."
-pub(crate) fn entry(book: &[u8], cell: u8) -> Found
+fn entry(book: &[u8], cell: u8) -> Found
     ensures { λ r. ⌜ r ≡ foundOf (newest cell (untilNone (sheetsOf (now (book .entry))))) ⌝ }
 {
     let mut place = book.len();
