@@ -2,3 +2,4 @@ pub mod Sheets
 pub mod Entries
 pub mod Newest
 pub mod Laying
+pub mod Adding

@@ -3,3 +3,4 @@ pub mod OneList
 pub mod Stepping
 pub mod Lookups
 pub mod Laid
+pub mod Adding
