@@ -16,19 +16,19 @@ use borrow.Author.Tests.{not-true, not-false, ltb-true, ltb-false, lt-ltb, le-lt
 use Rattle.answer.specs.Answer.{refused, answered}
 use Rattle.answer.specs.Promises.{First, this, later}
 use Rattle.answer.proofs.Laws.{refused-only-if, refused-if, answered-if, unchanged-if}
-use Rattle.numbers.proofs.Tests.{neither, tested}
+use Rattle.numbers.proofs.Tests.{neither}
 use Rattle.layout.specs.declared.Entry.{Entry}
 use Rattle.layout.specs.Layout.{contentIn}
 use Rattle.sheet.specs.Good.{good}
-use Rattle.sheet.proofs.Laws.Good.{good-entries-are, good-trailer-is-fair}
+use Rattle.sheet.proofs.Laws.Good.{good-trailer-is-fair}
 use Rattle.book.specs.Sheets.{sheetsOf}
 use Rattle.book.specs.Good.{numbersIn, goodSheets, goodBook}
-use Rattle.book.specs.Lookup.{entry, entriesIn, newest, cellsOf, lookupOf}
+use Rattle.book.specs.Lookup.{entry, newest, cellsOf, lookupOf}
 use Rattle.book.specs.Adding.{becomes, addRules, addedOf, roomOf}
 use Rattle.book.proofs.Laws.Sheets.{sheets-behind}
 use Rattle.booked.specs.Lookups.{HasEntry, HasNone}
 use Rattle.booked.specs.Adding.{adding02, SheetAdded, AddedTo, AddedLookup, AddRefused, Follows, GoodWithOneMore, AddsIf, NoneAfterTheLast}
-use Rattle.booked.proofs.Laws.Entries.{entry-only, entry-none}
+use Rattle.booked.proofs.Laws.Entries.{found-entry, found-none}
 use Rattle.booked.proofs.Laws.Newest.{newest-here, newest-older, looked-up}
 use Rattle.booked.proofs.Laws.Adding.{follows, Added, added}
 
@@ -96,15 +96,13 @@ module _ (room : List ℕ) (len : ℕ) (s : List ℕ) (new : ℕ) (e : addedOf r
 
   from-sheet : (x : Entry) → HasEntry cell s x → lookupOf then cell ≡ answered (entry (contentIn x) (numbersIn s .turn))
   from-sheet x has =
-      let found = entry-only cell (has .in-sheet) (search (good-entries-are s sheet-good, tested)) (has .its-cell) in
-      looks ∙ ap answered (newest-here cell s (sheetsOf (take len room)) x found)
+      looks ∙ ap answered (newest-here cell s (sheetsOf (take len room)) x (found-entry cell s sheet-good x has))
 
   as-before : HasNone cell s → lookupOf then cell ≡ lookupOf (take len room) cell
   as-before no-entry =
-      let none-there = entry-none cell (entriesIn s) (λ x i c. no-entry x (record { in-sheet = i; its-cell = c })) in
       let follow = good-with-one-more (take len room) s sheet-good .0 (added room len s new e .becomes-good) .1 in
       looks
-      ∙ ap answered (newest-older cell s (sheetsOf (take len room)) none-there)
+      ∙ ap answered (newest-older cell s (sheetsOf (take len room)) (found-none cell s no-entry))
       ∙ sym (looked-up (take len room) cell (after .was-good) (was-below s sheet-good (sheetsOf (take len room)) follow cell h))
 
 pub added-lookup : AddedLookup adding02 lookupOf

@@ -3,3 +3,4 @@ pub mod Entries
 pub mod Newest
 pub mod Laying
 pub mod Adding
+pub mod Lines

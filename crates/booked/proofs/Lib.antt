@@ -4,3 +4,4 @@ pub mod Stepping
 pub mod Lookups
 pub mod Laid
 pub mod Adding
+pub mod OfARun

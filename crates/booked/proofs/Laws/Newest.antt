@@ -24,7 +24,7 @@ use Rattle.book.specs.Sheets.{sheetsOf}
 use Rattle.book.specs.Good.{numbersIn, everySheet, goodBook}
 use Rattle.book.specs.Lookup.{LastSet, blank, entry, entriesIn, entryOn, orOlder, newest, cellsOf, lookupRules, lookupOf}
 use Rattle.booked.specs.Lookups.{In, here, further, HasNone, NoneHas, NewestEntry}
-use Rattle.booked.proofs.Laws.Entries.{entry-is-in, none-in, entry-none}
+use Rattle.booked.proofs.Laws.Entries.{has-entry, has-none, found-none}
 
 pub entry-is-not-blank : (c : Content) (turn : ℕ) → entry c turn ≡ blank → ⊥
 entry-is-not-blank c turn p = let z : _≡_ {A = ℕ} 0 1 = cc in omega arith
@@ -44,12 +44,6 @@ module _ (cell : ℕ) where
   pub newest-older : (s : List ℕ) (older : List (List ℕ)) → entryOn cell (entriesIn s) ≡ none → newest cell (s ∷ older) ≡ newest cell older
   unfolding newest
   newest-older s older p = ap (λ (o : Option Entry). orOlder o (numbersIn s .turn) (newest cell older)) p
-
-  none-is : (s : List ℕ) → entryOn cell (entriesIn s) ≡ none → HasNone cell s
-  none-is s p e has = none-in cell (has .in-sheet) p (has .its-cell)
-
-  is-none : (s : List ℕ) → HasNone cell s → entryOn cell (entriesIn s) ≡ none
-  is-none s no-entry = entry-none cell (entriesIn s) (λ e i c. no-entry e (record { in-sheet = i; its-cell = c }))
 
   -- ---- the newest entry
 
@@ -77,9 +71,8 @@ module _ (cell : ℕ) where
   newest-entry (s ∷ older) c turn p = by-case (newest-entry older c turn) (entryOn cell (entriesIn s)) refl
     where
       by-case : (newest cell older ≡ entry c turn → NewestEntry cell older c turn) → (o : Option Entry) → entryOn cell (entriesIn s) ≡ o → NewestEntry cell (s ∷ older) c turn
-      by-case rest none q = behind (none-is s q) (rest (sym (newest-older s older q) ∙ p))
+      by-case rest none q = behind (has-none cell s q) (rest (sym (newest-older s older q) ∙ p))
       by-case rest (some e) q =
-          let is-in = entry-is-in cell (entriesIn s) e q in
           let same : entry (contentIn e) (numbersIn s .turn) ≡ entry c turn = sym (newest-here s older e q) ∙ p in
           record {
             newer = [];
@@ -88,7 +81,7 @@ module _ (cell : ℕ) where
             stands = refl;
             none-newer = λ x i. absurd (some-in i refl);
             e = e;
-            has-it = record { in-sheet = is-in .0; its-cell = is-in .1 };
+            has-it = has-entry cell s e q;
             content-is = cc;
             turn-is = cc;
           }
@@ -100,13 +93,13 @@ module _ (cell : ℕ) where
   newest-blank (s ∷ older) p = by-case (newest-blank older) (entryOn cell (entriesIn s)) refl
     where
       by-case : (newest cell older ≡ blank → NoneHas cell older) → (o : Option Entry) → entryOn cell (entriesIn s) ≡ o → NoneHas cell (s ∷ older)
-      by-case rest none q = one-more (none-is s q) (rest (sym (newest-older s older q) ∙ p))
+      by-case rest none q = one-more (has-none cell s q) (rest (sym (newest-older s older q) ∙ p))
       by-case rest (some e) q = absurd (entry-is-not-blank (contentIn e) (numbersIn s .turn) (sym (newest-here s older e q) ∙ p))
 
   pub blank-newest : (ss : List (List ℕ)) → NoneHas cell ss → newest cell ss ≡ blank
   unfolding newest
   blank-newest [] none-has = refl
-  blank-newest (s ∷ older) none-has = newest-older s older (is-none s (none-has s here)) ∙ blank-newest older (λ x i. none-has x (further i))
+  blank-newest (s ∷ older) none-has = newest-older s older (found-none cell s (none-has s here)) ∙ blank-newest older (λ x i. none-has x (further i))
 
 -- ---- where a lookup is answered
 
