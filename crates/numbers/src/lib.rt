@@ -83,6 +83,13 @@ pub fn magnitude(z: i64) -> u64
     }
 }
 
+// The same of a number of 32 bits, such as a day.
+pub fn without_sign(z: i32) -> u64
+    ensures { λ r. ⌜ r ≡ natAbs z ⌝ }
+{
+    magnitude(z as i64)
+}
+
 // What a number leaves when divided; by 0 it leaves itself.
 pub fn left_by(n: u32, by: u8) -> u32
     ensures { λ r. ⌜ r ≡ n % by ⌝ }

@@ -62,7 +62,7 @@ fn put_day(out: &mut [u8], at: usize, day: i32) -> usize
     requires { ⌜ at + 15 ≤ length (now out) ⌝ }
     ensures { λ r. ⌜ Puts 15 (now (out .entry)) at (text·bytes "day " ++ signedDecimal day) (now (out .exit)) r ⌝ }
 {
-    let size = numbers::magnitude(day as i64) as u32;
+    let size = numbers::without_sign(day) as u32;
     if day < 0 {
         return put_number(out, at, b"day -", size);
     }

@@ -49,12 +49,8 @@ fn put_both(line: &mut [u8], at: usize, text: &[u8], n: u64) -> usize {
     put_number(line, at, n)
 }
 
-fn without_sign(day: i32) -> u64 {
-    numbers::magnitude(day as i64)
-}
-
 fn put_day(line: &mut [u8], at: usize, day: i32) -> usize {
-    let n = without_sign(day);
+    let n = numbers::without_sign(day);
     if day < 0 {
         return put_both(line, at, b"day -", n);
     }

@@ -19,10 +19,9 @@ use Rattle.sheet.specs.declared.Reading.{Reading}
 use Rattle.sheet.specs.declared.Reading.the-variants as reading
 use Rattle.sheet.specs.Good.{good}
 use Rattle.sheet.specs.Reading as sheets
-use Rattle.sheet.proofs.Laws.Reading.{bad-read}
+use Rattle.sheet.proofs.Laws.Reading.{bad-read, said-good, said-bad}
 use Rattle.sound.specs.declared.Head.{Head}
 use Rattle.tray.specs.Tray.{free, heldIn}
-use Rattle.tray.proofs.Laws.Looking.{said-good, said-bad}
 use Rattle.pending.specs.declared.Sent.{Sent}
 use Rattle.pending.specs.declared.Sent.the-variants as sends
 use Rattle.pending.specs.Pending.{pendingEntries, sheetOf, roomRules, entriesSent, bufferWith, saidSent, Sends}

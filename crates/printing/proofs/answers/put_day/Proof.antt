@@ -5,11 +5,8 @@ use Rattle.printing.proofs.Laws.Days.{days-laid}
 use Rattle.printing.proofs.answers.put_day.Statement.{statement}
 use Rattle.printing.proofs.answers.put_day.Tie as tie
 
-cast-magnitude : tie.Need-cast-magnitude
-cast-magnitude c = search (days-laid, needs)
-
-magnitude-requires : tie.Need-magnitude-requires
-magnitude-requires c κs = search needs
+without-sign-requires : tie.Need-without-sign-requires
+without-sign-requires c κs = search needs
 
 cast-size : tie.Need-cast-size
 cast-size c = search (days-laid, needs)
@@ -42,8 +39,7 @@ pub put-day-spec : {M : Type 1} → statement M
 put-day-spec =
     tie.close
     (tie.spec
-    cast-magnitude
-    magnitude-requires
+    without-sign-requires
     cast-size
     slice-aggregate-put-number
     put-number-requires

@@ -1,0 +1,2 @@
+// The book's file, replaced whole.
+pub(crate) fn nothing() {}
