@@ -2,9 +2,9 @@
 --   found-is-laid : FoundIsLaid lookupOf
 --   no-entry-is-blank : NoEntryIsBlank lookupOf
 -- Assumes nothing.
-use mathlib.Core.Path.{_≡_, refl, sym, ap, _∙_, subst}
+use mathlib.Core.Path.{_≡_, refl, sym, ap, _∙_}
 use mathlib.Core.Bool.{true}
-use mathlib.Core.List.{List, [], _∷_, _++_}
+use mathlib.Core.List.{List}
 use Prim.Native.Nat.{ℕ}
 use native.Mathlib.Omega.{arith}
 use Rattle.answer.specs.Answer.{answered}
@@ -19,11 +19,11 @@ use Rattle.sheet.specs.Promises.{OpenOrDay, is-open, is-day}
 use Rattle.sheet.proofs.Laws.Good.{good-entries-are, open-or-day}
 use Rattle.book.specs.Sheets.{sheetsOf}
 use Rattle.book.specs.Lookup.{LastSet, blank, entry, entriesIn, lookupOf}
-use Rattle.booked.specs.Lookups.{In, here, further}
+use Rattle.booked.specs.Lookups.{In}
 use Rattle.booked.specs.Laid.{contentFound, FoundIsLaid, NoEntryIsBlank}
 use Rattle.booked.proofs.Laws.Sheets.{are-good}
 use Rattle.booked.proofs.Laws.Entries.{every-in, sheet-in}
-use Rattle.booked.proofs.Laws.Newest.{cells-within, newest-entry, looked}
+use Rattle.booked.proofs.Laws.Newest.{cells-within, newest-entry, in-book, looked}
 use Rattle.booked.proofs.Laws.Laying.{laid-all}
 
 pub found-is-laid : FoundIsLaid lookupOf
@@ -40,17 +40,11 @@ not-blank s g e i p = by-kind (open-or-day e (every-in kindAndDay i (search (goo
     by-kind (is-open k c) = never-meet .blank-is-not-open (sym p ∙ c)
     by-kind (is-day k c) = never-meet .blank-is-no-day _ (sym p ∙ c)
 
--- a list's part is in it
-in-middle : (newer : List (List ℕ)) (s : List ℕ) (older : List (List ℕ)) → In s (newer ++ s ∷ older)
-in-middle [] s older = here
-in-middle (x ∷ newer) s older = further (in-middle newer s older)
-
 no-blank : (b : List ℕ) (cell : ℕ) (c : Content) (turn : ℕ) → lookupOf b cell ≡ answered (entry c turn) → c ≡ Blank → ⊥
 no-blank b cell c turn e p =
     let l = looked b cell (entry c turn) e in
     let n = newest-entry cell (sheetsOf b) c turn (l .found-is) in
-    let in-book : In (n .sheet) (sheetsOf b) = subst (In (n .sheet)) (sym (n .stands)) (in-middle (n .newer) (n .sheet) (n .older)) in
-    not-blank (n .sheet) (sheet-in good in-book (are-good (sheetsOf b) (l .is-good))) (n .e) (n .has-it .in-sheet) (n .content-is ∙ p)
+    not-blank (n .sheet) (sheet-in good (in-book cell n) (are-good (sheetsOf b) (l .is-good))) (n .e) (n .has-it .in-sheet) (n .content-is ∙ p)
 
 pub no-entry-is-blank : NoEntryIsBlank lookupOf
 no-entry-is-blank =

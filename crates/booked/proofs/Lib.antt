@@ -5,3 +5,4 @@ pub mod Lookups
 pub mod Laid
 pub mod Adding
 pub mod OfARun
+pub mod Settled

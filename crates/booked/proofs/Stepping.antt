@@ -21,7 +21,7 @@ use Rattle.book.specs.Good.{numbersIn, everySheet}
 use Rattle.book.specs.Stepping.{partOf, stepBack, placeAfter}
 use Rattle.book.proofs.Laws.Sheets.{start-behind}
 use Rattle.book.proofs.Laws.Stepping.{part-is, step-sheet, stepped}
-use Rattle.booked.specs.Stepping.{SheetEndsAt, StepGives, StepNone, NoneAtTheFront, StepsBack, none-comes, one-back, StepsThrough, StepsOnce}
+use Rattle.booked.specs.Stepping.{SheetEndsAt, StepGives, StepNone, NoneAtTheFront, GivesBack, none-comes, one-back, StepsThrough, StepsOnce}
 
 -- ---- one step
 
@@ -71,7 +71,7 @@ none-at-the-front b =
 -- ---- from a place on
 
 -- good sheets end to end, and then other bytes: from the end of those sheets
-through : (ss : List (List ℕ)) (rest : List ℕ) → everySheet good ss ≡ true → StepsBack stepBack placeAfter (endToEnd ss ++ rest) (length (endToEnd ss)) ss
+through : (ss : List (List ℕ)) (rest : List ℕ) → everySheet good ss ≡ true → GivesBack stepBack placeAfter (endToEnd ss ++ rest) (length (endToEnd ss)) ss
 unfolding endToEnd
 through [] rest g = none-comes (none-at-the-front rest)
 through (s ∷ older) rest g =
@@ -88,17 +88,17 @@ through (s ∷ older) rest g =
     let ends : SheetEndsAt b place (length front) =
     record { starts-before = omega (arith, long); in-book = omega (arith, length-append (front ++ s) rest); is-good = ap good part ∙ search tested }
     in
-    let further : StepsBack stepBack placeAfter b (length front) older =
-    subst (λ (l : List ℕ). StepsBack stepBack placeAfter l (length front) older) (sym (append-assoc front s rest)) (through older (s ++ rest) (search tested))
+    let further : GivesBack stepBack placeAfter b (length front) older =
+    subst (λ (l : List ℕ). GivesBack stepBack placeAfter l (length front) older) (sym (append-assoc front s rest)) (through older (s ++ rest) (search tested))
     in
-    subst (λ (l : List ℕ). StepsBack stepBack placeAfter b place (l ∷ older)) part (one-back (gives-it b place (length front) ends) further)
+    subst (λ (l : List ℕ). GivesBack stepBack placeAfter b place (l ∷ older)) part (one-back (gives-it b place (length front) ends) further)
 
 pub steps-through : StepsThrough stepBack placeAfter
 steps-through ss g =
-    subst (λ (l : List ℕ). StepsBack stepBack placeAfter l (length (endToEnd ss)) ss) (append-nil (endToEnd ss)) (through ss [] g)
+    subst (λ (l : List ℕ). GivesBack stepBack placeAfter l (length (endToEnd ss)) ss) (append-nil (endToEnd ss)) (through ss [] g)
 
 once : {step : List ℕ → ℕ → Back} {next : Back → ℕ → ℕ} {b : List ℕ} {place : ℕ} {ss ts : List (List ℕ)}
-    → StepsBack step next b place ss → StepsBack step next b place ts → ss ≡ ts
+    → GivesBack step next b place ss → GivesBack step next b place ts → ss ≡ ts
 once (none-comes e) (none-comes f) = refl
 once (none-comes e) (one-back {start = start} {end = end} {n = n} f t) = absurd (sheet-is-not-none start end n (sym f ∙ e))
 once (one-back {start = start} {end = end} {n = n} e s) (none-comes f) = absurd (sheet-is-not-none start end n (sym e ∙ f))
@@ -106,7 +106,7 @@ once {step} {next} {b} {place} (one-back {start = start} {end = end} {n = n} {ol
     let same : Sheet start′ end′ n′ ≡ Sheet start end n = sym f ∙ e in
     let starts : start ≡ start′ = cc in
     let ends : end ≡ end′ = cc in
-    let rest : older ≡ older′ = once s (subst (λ (x : Back). StepsBack step next b (next x place) older′) same t) in
+    let rest : older ≡ older′ = once s (subst (λ (x : Back). GivesBack step next b (next x place) older′) same t) in
     ap (λ (i : ℕ). partOf b i end ∷ older) starts ∙ ap (λ (i : ℕ). partOf b start′ i ∷ older) ends ∙ ap (λ (l : List (List ℕ)). partOf b start′ end′ ∷ l) rest
 
 pub steps-once : (step : List ℕ → ℕ → Back) (next : Back → ℕ → ℕ) → StepsOnce step next

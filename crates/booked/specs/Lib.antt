@@ -4,3 +4,5 @@ pub mod Laid
 pub mod Lookups
 pub mod Adding
 pub mod OfARun
+pub mod Settled
+pub mod WrongBooks

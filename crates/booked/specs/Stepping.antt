@@ -41,19 +41,19 @@ NoneAtTheFront step = (b : List ℕ) → step b 0 ≡ None
 -- ---- from a place on
 
 -- a reader at this place that steps back until none comes is given these parts of the book. `next` is where it stands after a step
-pub data StepsBack (step : List ℕ → ℕ → Back) (next : Back → ℕ → ℕ) (b : List ℕ) : ℕ → List (List ℕ) → Type 0 where
-  none-comes : {place : ℕ} → step b place ≡ None → StepsBack step next b place []
+pub data GivesBack (step : List ℕ → ℕ → Back) (next : Back → ℕ → ℕ) (b : List ℕ) : ℕ → List (List ℕ) → Type 0 where
+  none-comes : {place : ℕ} → step b place ≡ None → GivesBack step next b place []
   one-back : {place start end : ℕ} {n : Numbers} {older : List (List ℕ)}
       → step b place ≡ Sheet start end n
-      → StepsBack step next b (next (Sheet start end n) place) older
-      → StepsBack step next b place (partOf b start end ∷ older)
+      → GivesBack step next b (next (Sheet start end n) place) older
+      → GivesBack step next b place (partOf b start end ∷ older)
 
 -- from the end of good sheets end to end: all of them, each once, the newest first. (Of any book, then, that is good: specs/OneList.antt)
 abbrev pub StepsThrough : (List ℕ → ℕ → Back) → (Back → ℕ → ℕ) → Type 0
 StepsThrough step next =
-    (ss : List (List ℕ)) → everySheet good ss ≡ true → StepsBack step next (endToEnd ss) (length (endToEnd ss)) ss
+    (ss : List (List ℕ)) → everySheet good ss ≡ true → GivesBack step next (endToEnd ss) (length (endToEnd ss)) ss
 
 -- and no other list, from any place
 abbrev pub StepsOnce : (List ℕ → ℕ → Back) → (Back → ℕ → ℕ) → Type 0
 StepsOnce step next =
-    (b : List ℕ) (place : ℕ) (ss ts : List (List ℕ)) → StepsBack step next b place ss → StepsBack step next b place ts → ss ≡ ts
+    (b : List ℕ) (place : ℕ) (ss ts : List (List ℕ)) → GivesBack step next b place ss → GivesBack step next b place ts → ss ≡ ts

@@ -1,12 +1,14 @@
 -- Laws of `newest` and `lookupOf` (crates/book/specs/Lookup.antt).
 --   newest-here, newest-older      what a list of sheets has, by whether the newest has an entry for the cell
---   newest-entry, newest-blank     what is found is the newest entry; blank exactly if no sheet has one
+--   newest-entry, newest-is        what is found is the newest entry, and that is found
+--   newest-blank, blank-newest     blank exactly if no sheet has one
+--   in-book                        the sheet of the newest entry is one of the book's
 --   looked, looked-up              what is so where a lookup is answered; and that it is
 --   cells-within                   a good book has 64 cells at most
 -- Assumes nothing.
-use mathlib.Core.Path.{_≡_, refl, sym, ap, _∙_}
+use mathlib.Core.Path.{_≡_, refl, sym, ap, _∙_, subst}
 use mathlib.Core.Bool.{true}
-use mathlib.Core.List.{List, [], _∷_}
+use mathlib.Core.List.{List, [], _∷_, _++_}
 use mathlib.Core.Option.{Option, none, some}
 use Prim.Native.Nat.{ℕ, _<_, _≤_}
 use native.Mathlib.Omega.{arith}
@@ -24,7 +26,7 @@ use Rattle.book.specs.Sheets.{sheetsOf}
 use Rattle.book.specs.Good.{numbersIn, everySheet, goodBook}
 use Rattle.book.specs.Lookup.{LastSet, blank, entry, entriesIn, entryOn, orOlder, newest, cellsOf, lookupRules, lookupOf}
 use Rattle.booked.specs.Lookups.{In, here, further, HasNone, NoneHas, NewestEntry}
-use Rattle.booked.proofs.Laws.Entries.{has-entry, has-none, found-none}
+use Rattle.booked.proofs.Laws.Entries.{sheet-in, has-entry, has-none, found-entry, found-none}
 
 pub entry-is-not-blank : (c : Content) (turn : ℕ) → entry c turn ≡ blank → ⊥
 entry-is-not-blank c turn p = let z : _≡_ {A = ℕ} 0 1 = cc in omega arith
@@ -32,6 +34,10 @@ entry-is-not-blank c turn p = let z : _≡_ {A = ℕ} 0 1 = cc in omega arith
 some-in : {A : Type 0} {x : A} {l : List A} → In x l → length l ≡ 0 → ⊥
 some-in here e = omega arith
 some-in (further i) e = omega arith
+
+in-middle : (newer : List (List ℕ)) (s : List ℕ) (older : List (List ℕ)) → In s (newer ++ s ∷ older)
+in-middle [] s older = here
+in-middle (x ∷ newer) s older = further (in-middle newer s older)
 
 module _ (cell : ℕ) where
   -- ---- by the newest sheet
@@ -85,6 +91,23 @@ module _ (cell : ℕ) where
             content-is = cc;
             turn-is = cc;
           }
+
+  pub in-book : {ss : List (List ℕ)} {c : Content} {turn : ℕ} (n : NewestEntry cell ss c turn) → In (n .sheet) ss
+  in-book n = subst (In (n .sheet)) (sym (n .stands)) (in-middle (n .newer) (n .sheet) (n .older))
+
+  past-newer : (newer : List (List ℕ)) (ss : List (List ℕ)) → NoneHas cell newer → newest cell (newer ++ ss) ≡ newest cell ss
+  past-newer [] ss none-has = refl
+  past-newer (s ∷ newer) ss none-has =
+      newest-older s (newer ++ ss) (found-none cell s (none-has s here)) ∙ past-newer newer ss (λ x i. none-has x (further i))
+
+  pub newest-is : (ss : List (List ℕ)) → everySheet good ss ≡ true → (c : Content) (turn : ℕ) → NewestEntry cell ss c turn → newest cell ss ≡ entry c turn
+  newest-is ss g c turn n =
+      let found = found-entry cell (n .sheet) (sheet-in good (in-book n) g) (n .e) (n .has-it) in
+      ap (newest cell) (n .stands)
+      ∙ past-newer (n .newer) (n .sheet ∷ n .older) (n .none-newer)
+      ∙ newest-here (n .sheet) (n .older) (n .e) found
+      ∙ ap (λ (x : Content). entry x (numbersIn (n .sheet) .turn)) (n .content-is)
+      ∙ ap (entry c) (n .turn-is)
 
   -- ---- blank
 
