@@ -6,3 +6,4 @@ pub mod Laid
 pub mod Adding
 pub mod OfARun
 pub mod Settled
+pub mod WrongBooks

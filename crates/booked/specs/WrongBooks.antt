@@ -21,7 +21,7 @@ use Rattle.booked.specs.OneList.{GoodExactly, NoBytesAreGood, AnyFirstNu
 use Rattle.booked.specs.Stepping.{StepGives, StepNone, StepsThrough}
 use Rattle.booked.specs.Lookups.{LastSheetWith, LookupRefuses}
 use Rattle.booked.specs.Laid.{FoundIsLaid, NoEntryIsBlank}
-use Rattle.booked.specs.Adding.{Adding, AddedTo, AddRefused, AddsIf, NoneAfterTheLast}
+use Rattle.booked.specs.Adding.{Adding, adding02, AddedTo, AddedLookup, AddRefused, AddsIf, NoneAfterTheLast}
 use Rattle.booked.specs.OfARun.{RunsBookIsGood, LastSent}
 
 -- ---- small sheets, of two desks and two cells
@@ -173,6 +173,7 @@ pub record EachBites : Type 0 where
   pub newest-number : LastSheetWith lookNewestNumber → ⊥
   pub untested : LookupRefuses lookUntested → ⊥
   pub six-first : LookupRefuses look6First → ⊥
+  pub oldest-added : AddedLookup adding02 lookOldest → ⊥
   pub lays-first : AddRefused laysFirst → ⊥
   pub clears-the-rest : AddedTo clearsTheRest → ⊥
   pub room-first : AddsIf testsRoomFirst → ⊥
