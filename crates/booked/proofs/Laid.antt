@@ -1,12 +1,15 @@
 -- What specs/Laid.antt states of the content that a lookup finds.
+--   laid-is-taken : LaidIsTaken
 --   found-is-laid : FoundIsLaid lookupOf
 --   no-entry-is-blank : NoEntryIsBlank lookupOf
 -- Assumes nothing.
 use mathlib.Core.Path.{_≡_, refl, sym, ap, _∙_}
 use mathlib.Core.Bool.{true}
-use mathlib.Core.List.{List}
+use mathlib.Core.List.{List, [], _∷_}
 use Prim.Native.Nat.{ℕ}
 use native.Mathlib.Omega.{arith}
+use lib.IntN.{pos}
+use lib.ListN.{replicate}
 use Rattle.answer.specs.Answer.{answered}
 use Rattle.numbers.proofs.Tests.{tested}
 use Rattle.content.specs.declared.Content.{Content}
@@ -17,14 +20,39 @@ use Rattle.layout.specs.Layout.{contentIn}
 use Rattle.sheet.specs.Good.{kindAndDay, good}
 use Rattle.sheet.specs.Promises.{OpenOrDay, is-open, is-day}
 use Rattle.sheet.proofs.Laws.Good.{good-entries-are, open-or-day}
+use Rattle.applying.specs.Applying.{kindOn, dayOn}
+use Rattle.sound.specs.Head.{causal}
+use Rattle.desk.specs.declared.Desk.{Desk}
 use Rattle.book.specs.Sheets.{sheetsOf}
 use Rattle.book.specs.Lookup.{LastSet, blank, entry, entriesIn, lookupOf}
 use Rattle.booked.specs.Lookups.{In}
-use Rattle.booked.specs.Laid.{contentFound, FoundIsLaid, NoEntryIsBlank}
+use Rattle.booked.specs.Laid.{laidAll, takenAll, LaidIsTaken, contentFound, FoundIsLaid, NoEntryIsBlank}
 use Rattle.booked.proofs.Laws.Sheets.{are-good}
 use Rattle.booked.proofs.Laws.Entries.{every-in, sheet-in}
 use Rattle.booked.proofs.Laws.Newest.{cells-within, newest-entry, in-book, looked}
 use Rattle.booked.proofs.Laws.Laying.{laid-all}
+
+-- a desk that has taken sheets, by its record
+record TakenAs (d : Desk) (ss : List (List ℕ)) : Type 0 where
+  mode : causal (takenAll d ss .head) ≡ true
+  pkinds : takenAll d ss .pkind ≡ d .pkind
+  kinds : takenAll d ss .kind ≡ laidAll (d .pkind) kindOn 0 ss
+  days : takenAll d ss .day ≡ laidAll (d .pkind) dayOn (pos 0) ss
+
+taken-as : (d : Desk) → causal (d .head) ≡ true → d .kind ≡ replicate 64 0 → d .day ≡ replicate 64 (pos 0) → (ss : List (List ℕ)) → TakenAs d ss
+unfolding takenAll laidAll
+taken-as d c k y [] = record { mode = c; pkinds = refl; kinds = k; days = y }
+taken-as d c k y (s ∷ older) =
+    let t = taken-as d c k y older in
+    record {
+      mode = t .mode;
+      pkinds = t .pkinds;
+      kinds = rw (t .mode, t .pkinds, t .kinds);
+      days = rw (t .mode, t .pkinds, t .days);
+    }
+
+pub laid-is-taken : LaidIsTaken
+laid-is-taken d c k y ss cell = let t = taken-as d c k y ss in sym (rw (t .kinds, t .days))
 
 pub found-is-laid : FoundIsLaid lookupOf
 found-is-laid pkind b cell found e =

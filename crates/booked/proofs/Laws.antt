@@ -4,3 +4,4 @@ pub mod Newest
 pub mod Laying
 pub mod Adding
 pub mod Lines
+pub mod Computing

@@ -1,6 +1,7 @@
 -- What specs/OneList.antt states.
 --   sheets-are-the-book : SheetsAreTheBook, one-list : OneList
---   good-exactly : GoodExactly goodBook, no-bytes-are-good : NoBytesAreGood goodBook, any-first-number : AnyFirstNumber goodBook
+--   good-exactly : GoodExactly goodBook
+--   no-bytes-are-good : NoBytesAreGood goodBook, any-first-number : AnyFirstNumber goodBook
 --   counts-them : CountsThem countOf
 -- Assumes nothing.
 use mathlib.Core.Path.{_≡_, refl, sym, ap, _∙_}

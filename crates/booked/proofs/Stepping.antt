@@ -1,5 +1,6 @@
 -- What specs/Stepping.antt states of a step, and of stepping back through a book.
---   step-gives : StepGives stepBack, step-none : StepNone stepBack, none-at-the-front : NoneAtTheFront stepBack
+--   step-gives : StepGives stepBack, step-none : StepNone stepBack
+--   none-at-the-front : NoneAtTheFront stepBack
 --   steps-through : StepsThrough stepBack placeAfter
 --   steps-once : StepsOnce, of any step
 -- Assumes nothing.

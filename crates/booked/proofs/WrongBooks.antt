@@ -1,4 +1,5 @@
--- The books of specs/WrongBooks.antt by computing, and of each wrong call the statement that is false of it.
+-- The books of specs/WrongBooks.antt by computing, and of each wrong call the statement that is
+-- false of it.
 --   each-bites : EachBites
 -- Assumes nothing.
 use mathlib.Core.Path.{_≡_, refl, sym, ap, _∙_}
@@ -15,31 +16,22 @@ use Rattle.content.specs.declared.Content.{Content}
 use Rattle.content.specs.declared.Content.the-variants.{Open, Day}
 use Rattle.content.proofs.Laws.Content.{never-meet}
 use Rattle.layout.specs.Layout.{entryOf}
-use Rattle.sheet.specs.Good.{good}
-use Rattle.cells.specs.Cells.{placeAt, putIf}
-use Rattle.applying.specs.Applying.{laid}
 use Rattle.runs.specs.Run.{Shelf, start, Run, RunOn, afterAll}
 use Rattle.desk.specs.Calls.{document01}
 use Rattle.book.specs.declared.Back.the-variants.{Sheet, None}
-use Rattle.book.specs.Sheets.{sheetsBack, sheetsOf, endToEnd}
-use Rattle.book.specs.Good.{numbersIn, goodSheets}
+use Rattle.book.specs.Good.{numbersIn}
 use Rattle.book.specs.Stepping.{stepBack}
-use Rattle.book.specs.Lookup.{LastSet, blank, entry, entryOn, newest, lookupOf}
-use Rattle.book.specs.Adding.{addedOf, roomOf}
-use Rattle.booked.specs.OneList.{GoodExactly, NoBytesAreGood, AnyFirstNumber}
+use Rattle.book.specs.Lookup.{LastSet, blank, entry}
+use Rattle.booked.specs.OneList.{GoodExactly, NoBytesAreGood, AnyFirstNumber, CountsThem}
 use Rattle.booked.specs.Stepping.{StepGives, StepNone, StepsThrough, GivesBack, none-comes, one-back}
 use Rattle.booked.specs.Lookups.{here, LastSheetWith, LookupRefuses}
-use Rattle.booked.specs.Laid.{laidAll, FoundIsLaid, NoEntryIsBlank}
+use Rattle.booked.specs.Laid.{FoundIsLaid, NoEntryIsBlank}
 use Rattle.booked.specs.Adding.{adding02, AddedTo, AddedLookup, AddRefused, AddsIf, NoneAfterTheLast}
-use Rattle.booked.specs.OfARun.{bookOf, RunsBookIsGood, LastSent}
-use Rattle.booked.specs.WrongBooks.{daySheet, openSheet, empty1, empty2, emptyLast, empty0, sheetsAlone, someBytes, fromNumber0, stepBeyond, stays, lookOldest, lookDay0, lookNewestNumber, lookUntested, look6First, laidFirst, laysFirst, zerosPast, clearsTheRest, roomFirst, testsRoomFirst, wrapped, wraps, EachBites}
+use Rattle.booked.specs.OfARun.{RunsBookIsGood, LastSent}
+use Rattle.booked.specs.WrongBooks.{daySheet, openSheet, empty1, empty2, emptyLast, empty0, sheetsAlone, someBytes, fromNumber0, countUntested, stepBeyond, stays, oldest, lookOldest, lookDay0, lookNewestNumber, lookUntested, look6First, laidFirst, laysFirst, zerosPast, clearsTheRest, roomFirst, testsRoomFirst, wrapped, wraps, EachBites}
+use Rattle.booked.proofs.Laws.Computing.{computing}
 use Rattle.booked.proofs.OneList.{good-exactly}
 use Rattle.booked.proofs.Settled.{found-newest}
-
--- the definitions of the calls, and those that they rest on: to unfold this is to unfold all of them
-computing : Unit {0}
-unfolding sheetsBack sheetsOf endToEnd goodSheets good stepBack entryOn newest lookupOf addedOf roomOf laidAll laid placeAt putIf bookOf
-computing = tt
 
 -- ---- a test of a book
 
@@ -54,6 +46,10 @@ some-bytes part = false≢true part
 from-number-0 : AnyFirstNumber fromNumber0 → ⊥
 unfolding computing fromNumber0
 from-number-0 part = false≢true (part empty1 refl)
+
+untested-count : CountsThem countUntested → ⊥
+unfolding computing countUntested
+untested-count part = refused-is-not-answered 23 2 (sym (part .not-good (daySheet ++ empty2) .1 refl))
 
 -- ---- a step
 
@@ -90,11 +86,11 @@ entry-is-not-blank : (c : Content) (k : ℕ) → entry c k ≡ blank → ⊥
 entry-is-not-blank c k e = let z : _≡_ {A = ℕ} 0 1 = cc in omega arith
 
 oldest-content : FoundIsLaid lookOldest → ⊥
-unfolding computing lookOldest
+unfolding computing oldest lookOldest
 oldest-content part = never-meet .open-is-no-day (pos 0) (sym (part [] (daySheet ++ openSheet) 1 (entry (Day (pos 0)) 0) refl))
 
 oldest-entry : LastSheetWith lookOldest → ⊥
-unfolding computing lookOldest
+unfolding computing oldest lookOldest
 oldest-entry part =
     let e = same-number (Day (pos 0)) Open 0 1 (found-newest lookOldest part (daySheet ++ openSheet) 1 refl (entry (Day (pos 0)) 0) refl) in
     omega arith
@@ -132,7 +128,7 @@ six-first part = let e = apart blank 6 23 (part .exactly-23 (0 ∷ []) 64 .1 ref
 -- ---- adding
 
 oldest-added : AddedLookup adding02 lookOldest → ⊥
-unfolding computing lookOldest
+unfolding computing oldest lookOldest
 oldest-added part =
     let found : _≡_ {A = Answer LastSet} (answered (entry (Day (pos 0)) 0)) (answered (entry Open 1)) =
     part .from-sheet (daySheet ++ replicate 18 0) 18 openSheet 36 refl 1 (omega arith) (entryOf openSheet) (record { in-sheet = here; its-cell = refl })
@@ -193,6 +189,7 @@ each-bites =
       sheets-alone = sheets-alone;
       some-bytes = some-bytes;
       from-number-0 = from-number-0;
+      untested-count = untested-count;
       beyond-gives = beyond-gives;
       beyond-none = beyond-none;
       stays-there = stays-there;

@@ -1,5 +1,6 @@
--- 02, K1: "A lookup gives the newest entry for a cell with its sheet's turn number, or blank if no sheet has one; a book of no bytes counts as having
--- 64 cells." "Refusals: 23, book not good, before 6". proofs/Lookups.antt proves it of `lookupOf`.
+-- 02, K1: "A lookup gives the newest entry for a cell with its sheet's turn number, or blank if no
+-- sheet has one; a book of no bytes counts as having 64 cells." "Refusals: 23, book not good,
+-- before 6". proofs/Lookups.antt proves it of `lookupOf`.
 -- Assumes nothing.
 use mathlib.Core.Path.{_≡_}
 use mathlib.Core.Logic.{_↔_}
@@ -32,8 +33,9 @@ HasNone cell s = (e : Entry) → HasEntry cell s e → ⊥
 abbrev pub NoneHas : ℕ → List (List ℕ) → Type 0
 NoneHas cell ss = (s : List ℕ) → In s ss → HasNone cell s
 
--- "the newest entry for a cell with its sheet's turn number": a sheet of these, the newest first, has an entry with this content for the cell and
--- this turn number, and no newer one has an entry for it
+-- "the newest entry for a cell with its sheet's turn number": a sheet of these, the newest first,
+-- has an entry with this content for the cell and this turn number, and no newer one has an entry
+-- for it
 pub record NewestEntry (cell : ℕ) (ss : List (List ℕ)) (c : Content) (turn : ℕ) : Type 0 where
   pub newer : List (List ℕ)
   pub sheet : List ℕ

@@ -1,4 +1,5 @@
--- The statements settle the calls: whatever meets them is document 02's, answer for answer and byte for byte. proofs/Settled.antt proves it.
+-- The statements settle the calls: whatever meets them is document 02's, answer for answer and byte
+-- for byte. proofs/Settled.antt proves it.
 -- Assumes nothing.
 use mathlib.Core.Path.{_≡_}
 use mathlib.Core.Bool.{Bool}

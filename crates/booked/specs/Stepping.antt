@@ -1,5 +1,6 @@
--- 02, K1: "A reader keeps the book and the place it has got to, and gives back each sheet as the very part of the book that holds it." "A step back
--- gives none at the front or where no good sheet ends". What a step gives is said here without a trailer's distance: by the good sheet that ends
+-- 02, K1: "A reader keeps the book and the place it has got to, and gives back each sheet as the
+-- very part of the book that holds it." "A step back gives none at the front or where no good sheet
+-- ends". What a step gives is said here without a trailer's distance: by the good sheet that ends
 -- at the place. proofs/Stepping.antt proves it of `stepBack` and `placeAfter`.
 -- Assumes nothing.
 use mathlib.Core.Path.{_≡_}
@@ -24,7 +25,8 @@ pub record SheetEndsAt (b : List ℕ) (place start : ℕ) : Type 0 where
   pub in-book : place ≤ length b
   pub is-good : good (partOf b start place) ≡ true
 
--- what a step gives is that sheet, from its start to the place, with its numbers: so there is one at most
+-- what a step gives is that sheet, from its start to the place, with its numbers: so there is one
+-- at most
 abbrev pub StepGives : (List ℕ → ℕ → Back) → Type 0
 StepGives step =
     (b : List ℕ) (place start end : ℕ) (n : Numbers)
@@ -40,7 +42,8 @@ NoneAtTheFront step = (b : List ℕ) → step b 0 ≡ None
 
 -- ---- from a place on
 
--- a reader at this place that steps back until none comes is given these parts of the book. `next` is where it stands after a step
+-- a reader at this place that steps back until none comes is given these parts of the book. `next`
+-- is where it stands after a step
 pub data GivesBack (step : List ℕ → ℕ → Back) (next : Back → ℕ → ℕ) (b : List ℕ) : ℕ → List (List ℕ) → Type 0 where
   none-comes : {place : ℕ} → step b place ≡ None → GivesBack step next b place []
   one-back : {place start end : ℕ} {n : Numbers} {older : List (List ℕ)}
@@ -48,7 +51,8 @@ pub data GivesBack (step : List ℕ → ℕ → Back) (next : Back → ℕ → �
       → GivesBack step next b (next (Sheet start end n) place) older
       → GivesBack step next b place (partOf b start end ∷ older)
 
--- from the end of good sheets end to end: all of them, each once, the newest first. (Of any book, then, that is good: specs/OneList.antt)
+-- from the end of good sheets end to end: all of them, each once, the newest first. So it is of
+-- every good book (specs/OneList.antt)
 abbrev pub StepsThrough : (List ℕ → ℕ → Back) → (Back → ℕ → ℕ) → Type 0
 StepsThrough step next =
     (ss : List (List ℕ)) → everySheet good ss ≡ true → GivesBack step next (endToEnd ss) (length (endToEnd ss)) ss

@@ -1,8 +1,9 @@
--- Wrong calls on books: each is document 02's but for what is said of it here, and there is a book of which a statement of this crate is false.
--- So each statement says something of the calls. proofs/WrongBooks.antt proves it.
+-- Wrong calls on books: each is document 02's but for what is said of it here, and there is a book
+-- of which a statement of this crate is false. So each statement says something of the calls.
+-- proofs/WrongBooks.antt proves it.
 -- Assumes nothing.
 use mathlib.Core.Bool.{Bool, true, not, cond, _&&_, _||_}
-use mathlib.Core.List.{List, [], _∷_, _++_, reverse}
+use mathlib.Core.List.{List, [], _∷_, _++_}
 use Prim.Native.Nat.{ℕ, _+_, _-_}
 use lib.Dec.{eqb, ltb}
 use lib.IntN.{pos}
@@ -15,9 +16,9 @@ use Rattle.book.specs.declared.Back.the-variants.{Sheet, None}
 use Rattle.book.specs.Sheets.{lastStart, lastSheet, sheetsOf}
 use Rattle.book.specs.Good.{numbersIn, everySheet, goodBook}
 use Rattle.book.specs.Stepping.{stepBack}
-use Rattle.book.specs.Lookup.{LastSet, blank, entry, newest, cellsOf, lookupRules, lookupOf}
+use Rattle.book.specs.Lookup.{LastSet, blank, entry, entriesIn, entryOn, orOlder, newest, cellsOf, lookupRules, lookupOf}
 use Rattle.book.specs.Adding.{becomes, addedOf, roomOf}
-use Rattle.booked.specs.OneList.{GoodExactly, NoBytesAreGood, AnyFirstNumber}
+use Rattle.booked.specs.OneList.{GoodExactly, NoBytesAreGood, AnyFirstNumber, CountsThem}
 use Rattle.booked.specs.Stepping.{StepGives, StepNone, StepsThrough}
 use Rattle.booked.specs.Lookups.{LastSheetWith, LookupRefuses}
 use Rattle.booked.specs.Laid.{FoundIsLaid, NoEntryIsBlank}
@@ -36,7 +37,8 @@ abbrev pub openSheet : List ℕ
 openSheet =
     0x01 ∷ 0x01 ∷ 0x00 ∷ 0x00 ∷ 0x00 ∷ 0x00 ∷ 0x06 ∷ 0x00 ∷ 0x01 ∷ 0x01 ∷ 0x02 ∷ 0x02 ∷ 0x00 ∷ 0x00 ∷ 0x01 ∷ 0x00 ∷ 0x00 ∷ 0x00 ∷ []
 
--- empty, of this sender and with this low byte of the number; the other three bytes are all the same
+-- empty, of this sender and with this low byte of the number; the other three bytes are all the
+-- same
 abbrev pub emptySheet : (sender low high : ℕ) → List ℕ
 emptySheet sender low high = 0x00 ∷ 0x00 ∷ 0x00 ∷ sender ∷ 0x02 ∷ 0x02 ∷ 0x00 ∷ 0x00 ∷ low ∷ high ∷ high ∷ high ∷ []
 
@@ -66,10 +68,15 @@ someBytes b = goodBook b && not (eqb (length b) 0)
 -- the first number is 0
 abbrev pub firstIs0 : List (List ℕ) → Bool
 firstIs0 [] = true
-firstIs0 (s ∷ ss) = eqb (numbersIn s .turn) 0
+firstIs0 (s ∷ []) = eqb (numbersIn s .turn) 0
+firstIs0 (s ∷ o ∷ older) = firstIs0 (o ∷ older)
 
 unfoldable pub fromNumber0 : List ℕ → Bool
-fromNumber0 b = goodBook b && firstIs0 (reverse (sheetsOf b))
+fromNumber0 b = goodBook b && firstIs0 (sheetsOf b)
+
+-- and a wrong count: the book is not tested
+unfoldable pub countUntested : List ℕ → Answer ℕ
+countUntested b = answered (length (sheetsOf b))
 
 -- ---- wrong steps
 
@@ -85,9 +92,17 @@ stays step place = place
 
 -- ---- wrong lookups
 
--- the oldest entry for a cell
+-- the oldest entry for a cell: what the older sheets have, or else this one's
+abbrev pub orNewer : LastSet → LastSet → LastSet
+orNewer blank newer = newer
+orNewer (entry c turn) newer = entry c turn
+
+unfoldable pub oldest : ℕ → List (List ℕ) → LastSet
+oldest cell [] = blank
+oldest cell (s ∷ older) = orNewer (oldest cell older) (orOlder (entryOn cell (entriesIn s)) (numbersIn s .turn) blank)
+
 unfoldable pub lookOldest : List ℕ → ℕ → Answer LastSet
-lookOldest b cell = answer (lookupRules b cell) (newest cell (reverse (sheetsOf b)))
+lookOldest b cell = answer (lookupRules b cell) (oldest cell (sheetsOf b))
 
 -- 02's answer, with something else found
 abbrev pub otherwise : (LastSet → LastSet) → Answer LastSet → Answer LastSet
@@ -162,6 +177,7 @@ pub record EachBites : Type 0 where
   pub sheets-alone : GoodExactly sheetsAlone → ⊥
   pub some-bytes : NoBytesAreGood someBytes → ⊥
   pub from-number-0 : AnyFirstNumber fromNumber0 → ⊥
+  pub untested-count : CountsThem countUntested → ⊥
   pub beyond-gives : StepGives stepBeyond → ⊥
   pub beyond-none : StepNone stepBeyond → ⊥
   pub stays-there : StepsThrough stepBack stays → ⊥

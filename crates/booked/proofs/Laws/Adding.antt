@@ -1,6 +1,6 @@
--- Laws of `addedOf` and `roomOf` (crates/book/specs/Adding.antt), and of a book with one more sheet.
---   follows                        a list of sheets with one more good one is good exactly if it is and that one may follow
---   Added, added                   what is so where a sheet is added
+-- Laws of `addedOf` and `roomOf` (crates/book/specs/Adding.antt), and of one more sheet.
+--   follows                    one more sheet: the list is good exactly if it was and that may follow
+--   Added, added               what is so where a sheet is added
 -- Assumes nothing.
 use mathlib.Core.Path.{_≡_, refl, sym, ap, _∙_}
 use mathlib.Core.Logic.{_↔_}

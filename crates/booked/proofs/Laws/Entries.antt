@@ -1,8 +1,8 @@
 -- Laws of `entryOn` (crates/book/specs/Lookup.antt), by the entries that a sheet has.
---   every-in, sheet-in             what a test says of every entry, and of every sheet, it says of one
---   later-above                    entries that rise: those behind one have higher cells
---   has-entry, has-none            what is found in a sheet it has, and where none is found it has none
---   found-entry, found-none        what a good sheet has for a cell is found, and where it has none, none is
+--   every-in, sheet-in         what a test says of every entry, and of every sheet, it says of one
+--   later-above                entries that rise: those behind one have higher cells
+--   has-entry, has-none        what is found a sheet has; where none is found it has none
+--   found-entry, found-none    what a good sheet has is found; where it has none, none is
 -- Assumes nothing.
 use mathlib.Core.Path.{_≡_, refl, sym, ap, _∙_, subst}
 use mathlib.Core.Bool.{Bool, true, false, cond}

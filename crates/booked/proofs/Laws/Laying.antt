@@ -1,6 +1,6 @@
 -- Laws of `laidAll` (specs/Laid.antt).
---   laid-at                        a place after the entries of one sheet: the value of its entry, or what it had
---   laid-all                       a place after all sheets: the content that is found
+--   laid-at                    a place after one sheet: the value of its entry, or what it had
+--   laid-all                   a place after all sheets: the content that is found
 -- Assumes nothing.
 use mathlib.Core.Path.{_≡_, refl, sym, ap, _∙_}
 use mathlib.Core.Bool.{Bool, true, false}

@@ -1,9 +1,9 @@
 -- Laws of `bookOf` and `newestFirst` (specs/OfARun.antt), of any line whose sheets are in order.
---   line-end-to-end                the book of a line is its sheets, end to end
---   first-of                       the newest of the first sheets of a line
---   line-good                      they are good, all together
---   line-cells                     and have the shelf's cells
---   set-by, none-set, if-none-set  what is found among them
+--   book-suc                   the book of one sheet more
+--   line-good, line-sheets     the first k sheets are good together, and are those of their book
+--   line-cells                 and have the shelf's cells
+--   SetBy, set-by              the entry that is found among them
+--   none-set, if-none-set      that none is found, exactly if none has one
 -- Assumes nothing.
 use mathlib.Core.Path.{_≡_, refl, sym, ap, _∙_, subst}
 use mathlib.Core.Bool.{Bool, true, false}
@@ -20,12 +20,13 @@ use Rattle.layout.specs.declared.Entry.{Entry}
 use Rattle.layout.specs.Layout.{contentIn}
 use Rattle.runs.specs.Run.{Shelf, SentSheet, sheetOn}
 use Rattle.runs.specs.EveryRun.{SheetInOrder}
-use Rattle.book.specs.Sheets.{endToEnd}
+use Rattle.book.specs.Sheets.{sheetsOf, endToEnd}
 use Rattle.book.specs.Good.{numbersIn, goodSheets}
 use Rattle.book.specs.Lookup.{blank, entry, entriesIn, entryOn, newest, cellsOf}
 use Rattle.booked.specs.Lookups.{In, here, further, HasEntry, HasNone}
 use Rattle.booked.specs.Adding.{Follows}
 use Rattle.booked.specs.OfARun.{bookOf, newestFirst}
+use Rattle.booked.proofs.Laws.Sheets.{sheets-of, are-good}
 use Rattle.booked.proofs.Laws.Entries.{has-entry, has-none, found-none}
 use Rattle.booked.proofs.Laws.Newest.{entry-is-not-blank, newest-here, newest-older, newest-blank}
 use Rattle.booked.proofs.Laws.Adding.{follows}
@@ -37,7 +38,7 @@ unfolding endToEnd
 end-behind [] x = sym (append-nil x)
 end-behind (s ∷ ss) x = ap (λ (l : List ℕ). l ++ s) (end-behind ss x) ∙ append-assoc x (endToEnd ss) s
 
-pub line-end-to-end : (line : List SentSheet) → endToEnd (newestFirst line) ≡ bookOf line
+line-end-to-end : (line : List SentSheet) → endToEnd (newestFirst line) ≡ bookOf line
 unfolding bookOf newestFirst endToEnd
 line-end-to-end [] = refl
 line-end-to-end (x ∷ line) = end-behind (newestFirst line) (x .bytes) ∙ ap (λ (l : List ℕ). x .bytes ++ l) (line-end-to-end line)
@@ -57,6 +58,11 @@ module _ (line : List SentSheet) where
 
   firsts-suc : (k : ℕ) → k < length line → firsts (suc k) ≡ sheet k ∷ firsts k
   firsts-suc k h = ap newestFirst (take-suc line k _ h) ∙ newest-behind (take k line) (sheetOn line k)
+
+  pub book-suc : (k : ℕ) → k < length line → bookOf (take (suc k) line) ≡ bookOf (take k line) ++ sheet k
+  unfolding endToEnd
+  book-suc k h =
+      sym (line-end-to-end (take (suc k) line)) ∙ ap endToEnd (firsts-suc k h) ∙ ap (λ (l : List ℕ). l ++ sheet k) (line-end-to-end (take k line))
 
   -- below k, and at k
   up-to : (k : ℕ) (P : ℕ → Type 0) → P k → (j : ℕ) → (j < k → P j) → j < suc k → P j
@@ -88,6 +94,10 @@ module _ (line : List SentSheet) where
     line-good zero h = refl
     line-good (suc k) h =
         ap goodSheets (firsts-suc k h) ∙ follows (sheet k) (ordered k h .is-good) (firsts k) .1 (line-good k (omega arith), may-follow k h)
+
+    pub line-sheets : (k : ℕ) → k ≤ length line → sheetsOf (bookOf (take k line)) ≡ firsts k
+    line-sheets k h =
+        ap sheetsOf (sym (line-end-to-end (take k line))) ∙ sheets-of (firsts k) (are-good (firsts k) (line-good k h))
 
     pub line-cells : shelf .m ≤ 64 → (k : ℕ) → k ≤ length line → shelf .m ≤ cellsOf (firsts k)
     unfolding newestFirst

@@ -1,10 +1,10 @@
 -- Laws of `newest` and `lookupOf` (crates/book/specs/Lookup.antt).
---   newest-here, newest-older      what a list of sheets has, by whether the newest has an entry for the cell
---   newest-entry, newest-is        what is found is the newest entry, and that is found
---   newest-blank, blank-newest     blank exactly if no sheet has one
---   in-book                        the sheet of the newest entry is one of the book's
---   looked, looked-up              what is so where a lookup is answered; and that it is
---   cells-within                   a good book has 64 cells at most
+--   newest-here, newest-older  what is found, by whether the newest sheet has an entry for the cell
+--   newest-entry, newest-is    what is found is the newest entry, and that is found
+--   newest-blank, blank-newest blank exactly if no sheet has one
+--   in-book                    the sheet of the newest entry is one of the book's
+--   Looked, looked, looked-up  what is so where a lookup is answered; and that it is
+--   cells-within               a good book has 64 cells at most
 -- Assumes nothing.
 use mathlib.Core.Path.{_≡_, refl, sym, ap, _∙_, subst}
 use mathlib.Core.Bool.{true}

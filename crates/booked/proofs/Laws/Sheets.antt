@@ -1,7 +1,8 @@
--- Laws of `sheetsOf` and `endToEnd` (crates/book/specs/Sheets.antt), beside those of crates/book/proofs/Laws/Sheets.antt.
---   whole-again                    any bytes are their sheets, end to end
---   sheets-of                      good sheets, end to end, are the sheets of those bytes
---   are-good                       the sheets of a good book are good
+-- Laws of `sheetsOf` and `endToEnd` (crates/book/specs/Sheets.antt), beside those of
+-- crates/book/proofs/Laws/Sheets.antt.
+--   whole-again                any bytes are their sheets, end to end
+--   sheets-of                  good sheets, end to end, are the sheets of those bytes
+--   are-good                   the sheets of a good book are good
 -- Assumes nothing.
 use mathlib.Core.Path.{_≡_, ap, _∙_}
 use mathlib.Core.Bool.{true}
