@@ -1,10 +1,11 @@
 -- What specs/Lookups.antt states of a lookup.
 --   last-sheet-with : LastSheetWith lookupOf
 --   lookup-refuses : LookupRefuses lookupOf
+--   no-bytes-have-64-cells : NoBytesHave64Cells lookupOf
 -- Assumes nothing.
 use mathlib.Core.Path.{_≡_, refl, sym, _∙_}
 use mathlib.Core.Bool.{true, false}
-use mathlib.Core.List.{List}
+use mathlib.Core.List.{List, []}
 use Prim.Native.Nat.{ℕ, _≤_}
 use native.Mathlib.Omega.{arith}
 use borrow.Author.Tests.{not-true, not-false, ltb-false, le-ltb}
@@ -13,7 +14,8 @@ use Rattle.answer.proofs.Laws.{refused-only-if, refused-if}
 use Rattle.book.specs.Sheets.{sheetsOf}
 use Rattle.book.specs.Good.{goodBook}
 use Rattle.book.specs.Lookup.{newest, cellsOf, lookupRules, lookupOf}
-use Rattle.booked.specs.Lookups.{LastSheetWith, LookupRefuses}
+use Rattle.booked.specs.Lookups.{LastSheetWith, LookupRefuses, NoBytesHave64Cells}
+use Rattle.booked.proofs.Laws.Computing.{computing}
 use Rattle.booked.proofs.Laws.Newest.{newest-entry, newest-blank, blank-newest, looked, looked-up}
 
 pub last-sheet-with : LastSheetWith lookupOf
@@ -52,3 +54,8 @@ lookup-refuses =
           );
       else-answers = λ b cell g h. (newest cell (sheetsOf b), looked-up b cell g h);
     }
+
+pub no-bytes-have-64-cells : NoBytesHave64Cells lookupOf
+unfolding computing
+no-bytes-have-64-cells =
+    record { blank-below = λ cell h. looked-up [] cell refl h; refused-above = λ cell h. lookup-refuses .exactly-6 [] cell .1 (refl, h) }

@@ -5,7 +5,7 @@
 use mathlib.Core.Path.{_≡_}
 use mathlib.Core.Logic.{_↔_}
 use mathlib.Core.Bool.{true, false}
-use mathlib.Core.List.{List, _∷_, _++_}
+use mathlib.Core.List.{List, [], _∷_, _++_}
 use Prim.Native.Nat.{ℕ, _<_, _≤_}
 use Rattle.answer.specs.Answer.{Answer, refused, answered}
 use Rattle.content.specs.declared.Content.{Content}
@@ -57,3 +57,8 @@ pub record LookupRefuses (look : List ℕ → ℕ → Answer LastSet) : Type 0 w
   pub exactly-23 : (b : List ℕ) (cell : ℕ) → (look b cell ≡ refused 23) ↔ (goodBook b ≡ false)
   pub exactly-6 : (b : List ℕ) (cell : ℕ) → (look b cell ≡ refused 6) ↔ ((goodBook b ≡ true) × (cellsOf (sheetsOf b) ≤ cell))
   pub else-answers : (b : List ℕ) (cell : ℕ) → goodBook b ≡ true → cell < cellsOf (sheetsOf b) → (found : LastSet) × (look b cell ≡ answered found)
+
+-- "a book of no bytes counts as having 64 cells"
+pub record NoBytesHave64Cells (look : List ℕ → ℕ → Answer LastSet) : Type 0 where
+  pub blank-below : (cell : ℕ) → cell < 64 → look [] cell ≡ answered blank
+  pub refused-above : (cell : ℕ) → 64 ≤ cell → look [] cell ≡ refused 6

@@ -1,5 +1,5 @@
 -- Laws of `addedOf` and `roomOf` (crates/book/specs/Adding.antt), and of one more sheet.
---   follows                    one more sheet: the list is good exactly if it was and that may follow
+--   follows                    one more sheet: all are good exactly if they were and it may follow
 --   Added, added               what is so where a sheet is added
 -- Assumes nothing.
 use mathlib.Core.Path.{_≡_, refl, sym, ap, _∙_}
