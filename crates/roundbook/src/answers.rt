@@ -4,7 +4,6 @@ use book::Back;
 use book::Counted;
 use book::Found;
 use content::Content;
-use layout::Numbers;
 use libc::STDOUT_FILENO;
 
 pub(crate) fn say(text: &[u8]) {
@@ -19,6 +18,7 @@ pub(crate) fn say_number(text: &[u8], n: u64) {
 
 fn say_refused(number: u8) -> bool {
     say_number(b"refused ", number as u64);
+    say(b"\n");
     true
 }
 
@@ -46,12 +46,13 @@ fn say_content(c: Content) {
 pub(crate) fn say_found(f: Found) -> bool {
     match f {
         Found::Blank => {
-            say(b"blank");
+            say(b"blank\n");
             false
         }
         Found::Entry(content, turn) => {
             say_content(content);
             say_number(b" ", turn as u64);
+            say(b"\n");
             false
         }
         Found::Refused(number) => say_refused(number),
@@ -71,16 +72,20 @@ pub(crate) fn say_back(step: Back) {
         }
         Back::None => say(b"none"),
     }
+    say(b"\n");
 }
 
-// `added LENGTH`, or a refusal.
+// `added LENGTH`, or a refusal, without the line's end.
 pub(crate) fn say_added(a: Added) -> bool {
     match a {
         Added::Length(len) => {
             say_number(b"added ", len as u64);
             false
         }
-        Added::Refused(number) => say_refused(number),
+        Added::Refused(number) => {
+            say_number(b"refused ", number as u64);
+            true
+        }
     }
 }
 
@@ -89,47 +94,46 @@ pub(crate) fn say_count(c: Counted) -> bool {
     match c {
         Counted::Sheets(n) => {
             say_number(b"sheets ", n as u64);
+            say(b"\n");
             false
         }
         Counted::Refused(number) => say_refused(number),
     }
 }
 
-fn say_numbers(n: Numbers) {
-    say_number(b" ", n.turn as u64);
-    say_number(b" ", n.sender as u64);
-    say_number(b" ", n.entries as u64);
-}
-
 // `START END TURN SENDER ENTRIES`.
 fn say_sheet(step: Back) {
-    say_back(step);
     if let Back::Sheet {
-        start: _,
-        end: _,
+        start,
+        end,
         numbers,
     } = step {
-        say_numbers(numbers);
+        say_number(b"", start as u64);
+        say_number(b" ", end as u64);
+        say_number(b" ", numbers.turn as u64);
+        say_number(b" ", numbers.sender as u64);
+        say_number(b" ", numbers.entries as u64);
+        say(b"\n");
     }
-    say(b"\n");
 }
 
-// A line for each sheet, the newest first; or a refusal, in a line.
+// So many sheets, the newest first.
+fn say_newest(book: &[u8], sheets: usize) {
+    let mut place = book.len();
+    for _ in 0..sheets {
+        let step = book::step_back(book, place);
+        say_sheet(step);
+        place = book::place_after(step, place);
+    }
+}
+
+// A line for each sheet, the newest first; or a refusal.
 pub(crate) fn say_sheets(book: &[u8]) -> bool {
     match book::count(book) {
         Counted::Sheets(sheets) => {
-            let mut place = book.len();
-            for _ in 0..sheets {
-                let step = book::step_back(book, place);
-                say_sheet(step);
-                place = book::place_after(step, place);
-            }
+            say_newest(book, sheets);
             false
         }
-        Counted::Refused(number) => {
-            say_refused(number);
-            say(b"\n");
-            true
-        }
+        Counted::Refused(number) => say_refused(number),
     }
 }

@@ -1,0 +1,158 @@
+"""What calls on round books show, by the call's letter: each of it has to be seen now and then.
+
+Each definition below gives all that calls of one letter can show, and whether this one shows it.
+"""
+import books
+import sheets
+
+GREATEST = sheets.MOST_TURN
+REFUSED_23 = ['refused 23']
+
+
+def of_sheets(call, said):
+    """`s`"""
+    return {
+        'refused 23': said[0] == 'refused 23',
+        'no sheet': said == ['end'],
+        'one sheet': len(said) == 2 and said[0] != 'refused 23',
+        'more than one sheet': len(said) > 2,
+    }
+
+
+def of_wrong_book(book):
+    """One alone is not so: "every sheet is, all have the same desks and cells, and turn numbers rise
+    by 1"."""
+    cut = books.parts(book)
+    row = [one.sheet for one in cut or []]
+    steps = list(zip(row, row[1:]))
+    desks = any(a.desks != b.desks for a, b in steps)
+    cells = any(a.cells != b.cells for a, b in steps)
+    off = [b.turn - a.turn for a, b in steps if b.turn != a.turn + 1]
+    numbers = off if not desks and not cells else []
+    return {
+        'a sheet not good': cut is None,
+        'only desks differ': desks and not cells and not off,
+        'only cells differ': cells and not desks and not off,
+        'only numbers skip': numbers != [] and min(numbers) > 1,
+        'only numbers stay': numbers != [] and set(numbers) == {0},
+        'only numbers fall': numbers != [] and max(numbers) < 0 and min(numbers) > -GREATEST,
+        'only numbers go on at 0': numbers == [-GREATEST],
+    }
+
+
+def of_good_book(book):
+    row = [one.sheet for one in books.parts(book) or []] if books.is_good(book) else []
+    sizes = [len(sheet.entries) for sheet in row]
+    first = row[0] if row else sheets.Sheet(0, 0, 0, -1, [])
+    return {
+        'good, no sheet': book == b'',
+        'good, 1 sheet': len(row) == 1,
+        'good, 12 sheets': len(row) == 12,
+        'good, more than 255 sheets': len(row) > 255,
+        'good, more than 65,535 bytes': row != [] and len(book) > 65_535,
+        'good from number 0': first.turn == 0,
+        'good from another number': first.turn > 0,
+        'good up to the greatest number': row != [] and row[-1].turn == GREATEST,
+        'good, 1 desk': first.desks == 1,
+        'good, 16 desks': first.desks == 16,
+        'good, 1 cell': first.cells == 1,
+        'good, 64 cells': first.cells == 64,
+        'good, with an empty sheet': 0 in sizes,
+        'good, with a sheet of 64 entries': 64 in sizes,
+    }
+
+
+def of_count(call, said):
+    """`c`"""
+    return {**of_wrong_book(call.book), **of_good_book(call.book)}
+
+
+def of_lookup(call, said):
+    """`l`"""
+    word, *numbers = said[0].split()
+    found = word in ('open', 'day')
+    newest = books.sheets_of(call.book)[-1].sheet.turn if found else None
+    turn = int(numbers[-1]) if found else None
+    return {
+        'refused 23': said == REFUSED_23,
+        'refused 23, and no shelf has the cell': said == REFUSED_23 and call.number >= 64,
+        'refused 6': said == ['refused 6'] and call.book != b'',
+        'refused 6, a cell below 64': said == ['refused 6'] and call.number < 64,
+        'refused 6, no sheet': said == ['refused 6'] and call.book == b'',
+        'blank': word == 'blank' and call.book != b'',
+        'blank, no sheet': word == 'blank' and call.book == b'',
+        'open': word == 'open',
+        'day': word == 'day',
+        'day below 0': word == 'day' and numbers[0][0] == '-',
+        'day 0': word == 'day' and numbers[0] == '0',
+        'of the newest sheet': found and turn == newest,
+        'of an older sheet': found and turn != newest,
+        'of number 0': turn == 0,
+        'of the greatest number': turn == GREATEST,
+    }
+
+
+def of_step(call, said):
+    """`b`"""
+    none, size = said == ['none'], len(call.book)
+    good = books.is_good(call.book)
+    ends = [one.end for one in books.parts(call.book) or []]
+    return {
+        'the last sheet of a good book': not none and good and call.number == size,
+        'another sheet of a good book': not none and good and call.number in ends[:-1],
+        'a sheet across sheets of a good book': not none and good and call.number not in ends,
+        'a sheet of a book not good': not none and not good,
+        'none at the front': none and call.number == 0,
+        'none inside': none and 0 < call.number < size,
+        'none at the end': none and 0 < call.number == size,
+        'none beyond the book': none and call.number > size,
+        'none beyond 64 bits less a sheet': none and call.number >= 2**64 - 12,
+    }
+
+
+def of_adding(call, said):
+    """`a`"""
+    answer = ' '.join(said[0].split(' ')[:-1])
+    room, length, size = len(call.book), call.number, len(call.sheet)
+    added = answer.startswith('added')
+    refused_23, beyond = answer == 'refused 23', length > room
+    before = call.book[:length]
+    fits = refused_23 and not beyond and books.is_good(before)
+    last = books.sheets_of(before)[-1].sheet if fits else sheets.Sheet(0, 0, 0, 0, [])
+    sheet = sheets.read(call.sheet) or last
+    follows = sheet.turn == last.turn + 1
+    return {
+        'added to no bytes': added and length == 0,
+        'added to some bytes': added and length > 0,
+        'added, no byte left': added and length + size == room,
+        'added, bytes left': added and length + size < room,
+        'refused 13': answer == 'refused 13' and not beyond and size > 0,
+        'refused 13, no bytes': answer == 'refused 13' and size == 0,
+        'refused 13 before 23': answer == 'refused 13' and beyond,
+        'refused 23, length beyond the room': refused_23 and beyond,
+        'refused 23, length near 64 bits': refused_23 and length > 2**64 - 400,
+        'refused 23, book not good': refused_23 and not beyond and not fits,
+        'refused 23, only desks differ': fits and follows and sheet.cells == last.cells,
+        'refused 23, only cells differ': fits and follows and sheet.desks == last.desks,
+        'refused 23, only the number': fits and not follows
+        and (sheet.desks, sheet.cells) == (last.desks, last.cells),
+        'refused 23 before 11': refused_23 and not beyond and room - length < size,
+        'refused 11': answer == 'refused 11' and room > length,
+        'refused 11, one byte short': answer == 'refused 11' and room - length == size - 1,
+        'refused 11, no byte of room': answer == 'refused 11' and room == 0,
+    }
+
+
+BY_LETTER = {'s': of_sheets, 'c': of_count, 'l': of_lookup, 'b': of_step, 'a': of_adding}
+
+
+def seen_in(call, said):
+    """All that calls of this letter can show, with 1 for what this one shows and 0 for the rest."""
+    shown = BY_LETTER[call.letter](call, said)
+    return {f'{call.letter}: {name}': int(seen) for name, seen in shown.items()}
+
+
+def nothing():
+    """All that calls can show, each with 0."""
+    calls = [books.Call(letter, b'') for letter in BY_LETTER]
+    return {name: 0 for call in calls for name in seen_in(call, books.lines(call))}
