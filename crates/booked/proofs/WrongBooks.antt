@@ -29,6 +29,7 @@ use Rattle.booked.specs.Laid.{FoundIsLaid, NoEntryIsBlank}
 use Rattle.booked.specs.Adding.{adding02, AddedTo, AddedLookup, AddRefused, AddsIf, NoneAfterTheLast}
 use Rattle.booked.specs.OfARun.{RunsBookIsGood, LastSent}
 use Rattle.booked.specs.WrongBooks.{daySheet, openSheet, empty1, empty2, emptyLast, empty0, sheetsAlone, someBytes, fromNumber0, countUntested, stepBeyond, stays, oldest, lookOldest, lookDay0, lookNewestNumber, lookUntested, look6First, laidFirst, laysFirst, zerosPast, clearsTheRest, roomFirst, testsRoomFirst, wrapped, wraps, EachBites}
+use Rattle.booked.proofs.Laws.Newest.{entry-is-not-blank}
 use Rattle.booked.proofs.Laws.Computing.{computing}
 use Rattle.booked.proofs.OneList.{good-exactly}
 use Rattle.booked.proofs.Settled.{found-newest}
@@ -82,9 +83,6 @@ stays-there part = no-end (part (daySheet ∷ []) refl) refl
 same-number : (c d : Content) (j k : ℕ) → entry c j ≡ entry d k → j ≡ k
 same-number c d j k e = cc
 
-entry-is-not-blank : (c : Content) (k : ℕ) → entry c k ≡ blank → ⊥
-entry-is-not-blank c k e = let z : _≡_ {A = ℕ} 0 1 = cc in omega arith
-
 oldest-content : FoundIsLaid lookOldest → ⊥
 unfolding computing oldest lookOldest
 oldest-content part = never-meet .open-is-no-day (pos 0) (sym (part [] (daySheet ++ openSheet) 1 (entry (Day (pos 0)) 0) refl))
@@ -117,13 +115,12 @@ untested : LookupRefuses lookUntested → ⊥
 unfolding computing lookUntested
 untested part = refused-is-not-answered 23 blank (sym (part .exactly-23 (daySheet ++ empty2) 0 .1 refl))
 
--- a refusal has one number
-apart : {A : Type 0} (a : A) (j k : ℕ) → _≡_ {A = Answer A} (refused j) (refused k) → j ≡ k
-apart a j k e = cc
-
 six-first : LookupRefuses look6First → ⊥
 unfolding computing look6First
-six-first part = let e = apart blank 6 23 (part .exactly-23 (0 ∷ []) 64 .1 refl) in omega arith
+six-first part =
+    let six : _≡_ {A = Answer LastSet} (refused 6) (refused 23) = part .exactly-23 (0 ∷ []) 64 .1 refl in
+    let e : _≡_ {A = ℕ} 6 23 = cc in
+    omega arith
 
 -- ---- adding
 
@@ -149,7 +146,10 @@ clears-the-rest part =
 room-first : AddsIf testsRoomFirst → ⊥
 unfolding computing roomFirst
 room-first part =
-    let e = apart 0 11 23 (part .exactly-23 (daySheet ++ replicate 11 0xAA) 18 empty2 .1 (refl, inr refl)) in
+    let eleven : _≡_ {A = Answer ℕ} (refused 11) (refused 23) =
+    part .exactly-23 (daySheet ++ replicate 11 0xAA) 18 empty2 .1 (refl, inr refl)
+    in
+    let e : _≡_ {A = ℕ} 11 23 = cc in
     omega arith
 
 wraps-around : NoneAfterTheLast wraps → ⊥

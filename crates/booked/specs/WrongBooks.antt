@@ -2,13 +2,13 @@
 -- of which a statement of this crate is false. So each statement says something of the calls.
 -- proofs/WrongBooks.antt proves it.
 -- Assumes nothing.
-use mathlib.Core.Bool.{Bool, true, not, cond, _&&_, _||_}
+use mathlib.Core.Bool.{Bool, true, false, not, cond, _&&_, _||_}
 use mathlib.Core.List.{List, [], _∷_, _++_}
 use Prim.Native.Nat.{ℕ, _+_, _-_}
 use lib.Dec.{eqb, ltb}
 use lib.IntN.{pos}
 use lib.ListN.{length, take, drop, replicate}
-use Rattle.answer.specs.Answer.{Answer, refused, answered, _if_, answer}
+use Rattle.answer.specs.Answer.{Answer, refused, answered, accepted, _if_, answer}
 use Rattle.content.specs.declared.Content.the-variants.{Day}
 use Rattle.sheet.specs.Good.{good}
 use Rattle.book.specs.declared.Back.{Back}
@@ -143,9 +143,10 @@ laidFirst room len s = becomes room len s ++ drop (len + length s) room
 abbrev pub laysFirst : Adding
 laysFirst = record { answers = addedOf; leaves = laidFirst }
 
--- the bytes past the sheet become zeros
+-- where a sheet is added, the bytes past it become zeros
 unfoldable pub zerosPast : List ℕ → ℕ → List ℕ → List ℕ
-zerosPast room len s = take (len + length s) (roomOf room len s) ++ replicate (length room - (len + length s)) 0
+zerosPast room len s =
+    cond (accepted (addedOf room len s)) (becomes room len s ++ replicate (length room - (len + length s)) 0) room
 
 abbrev pub clearsTheRest : Adding
 clearsTheRest = record { answers = addedOf; leaves = zerosPast }
@@ -162,14 +163,20 @@ testsRoomFirst = record { answers = roomFirst; leaves = roomOf }
 
 -- after the last number comes 0
 abbrev pub lastThen0 : List (List ℕ) → List ℕ → Bool
-lastThen0 [] s = true
+lastThen0 [] s = false
 lastThen0 (o ∷ older) s = eqb (numbersIn o .turn) 4294967294 && eqb (numbersIn s .turn) 0
 
+abbrev pub wrapsHere : List ℕ → ℕ → List ℕ → Bool
+wrapsHere room len s = good s && lastThen0 (sheetsOf (take len room)) s
+
 unfoldable pub wrapped : List ℕ → ℕ → List ℕ → Answer ℕ
-wrapped room len s = cond (lastThen0 (sheetsOf (take len room)) s) (answered (len + length s)) (addedOf room len s)
+wrapped room len s = cond (wrapsHere room len s) (answered (len + length s)) (addedOf room len s)
+
+unfoldable pub wrappedRoom : List ℕ → ℕ → List ℕ → List ℕ
+wrappedRoom room len s = cond (wrapsHere room len s) (laidFirst room len s) (roomOf room len s)
 
 abbrev pub wraps : Adding
-wraps = record { answers = wrapped; leaves = laidFirst }
+wraps = record { answers = wrapped; leaves = wrappedRoom }
 
 -- ---- of which the statements are false
 
