@@ -4,3 +4,4 @@ pub mod Stepping
 pub mod Examining
 pub mod Lookup
 pub mod Calls
+pub mod Answers

@@ -5,3 +5,4 @@ pub mod Counting
 pub mod Lookup
 pub mod Adding
 pub mod Parts
+pub mod Promises
