@@ -1,0 +1,10 @@
+pub mod Laws
+pub mod OneList
+pub mod Stepping
+pub mod Inside
+pub mod Lookups
+pub mod Laid
+pub mod Adding
+pub mod OfARun
+pub mod Settled
+pub mod WrongBooks

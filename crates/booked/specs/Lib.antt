@@ -1,0 +1,9 @@
+pub mod OneList
+pub mod Stepping
+pub mod Inside
+pub mod Laid
+pub mod Lookups
+pub mod Adding
+pub mod OfARun
+pub mod Settled
+pub mod WrongBooks
