@@ -24,23 +24,33 @@ pub fn good_trailer(t: Trailer, back: usize) -> bool
 pub fn good_entry(cells: u8, least: u16, e: Entry) -> bool
     ensures { λ r. ⌜ r ≡ goodEntry cells least e ⌝ }
 {
-    (least <= (e.cell as u16)) & (e.cell < cells) & ((e.kind == 1) & (e.day == 0) | (e.kind == 2))
+    if (e.cell as u16) < least {
+        return false;
+    }
+    if cells <= e.cell {
+        return false;
+    }
+    if e.kind == 2 {
+        return true;
+    }
+    (e.kind == 1) & (e.day == 0)
 }
 
-// The first n entries, each looked at once.
+// The first n entries, each looked at once, up to the first that is not good.
 pub(crate) fn good_entries(s: &[u8], n: u8, cells: u8) -> bool
     requires { ⌜ 6 * n ≤ length (now s) ⌝ }
     ensures { λ r. ⌜ r ≡ goodEntries cells (entriesOf n (now (s .entry))) ⌝ }
 {
     let count = n as usize;
-    let mut ok = true;
     let mut least: u16 = 0;
     let mut i: usize = 0;
     while i < count {
         let e = bytes::entry_from(s, 6 * i);
-        ok = ok & good_entry(cells, least, e);
+        if !good_entry(cells, least, e) {
+            return false;
+        }
         least = (e.cell as u16) + 1;
         i += 1;
     }
-    ok
+    true
 }

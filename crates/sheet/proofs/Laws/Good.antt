@@ -1,5 +1,7 @@
 -- Laws of `good` (specs/Good.antt) and of its parts (specs/Parts.antt).
 --   SoFar, begun, turned, ended              a loop over entries, wherever they stand; turned-in-bytes, ended-in-bytes
+--   goes-on-in-bytes, stops-in-bytes         the same for a loop that stops where something is not good
+--   entry-tests                              a set for `search`: one entry, test by test
 --   good-is, too-short-is-bad                good is its two parts; fewer than 12 bytes are no sheet
 --   fair-trailer                             a good trailer's clauses as facts
 --   good-is-long, good-trailer-is-fair, good-entries-are, good-length, good-within    what a good sheet is known to be
@@ -7,16 +9,16 @@
 --   sheet-bad, sheet-good                    the bytes of values are good exactly if the values are
 --   open-or-day                              contents in entries
 -- Assumes nothing.
-use mathlib.Core.Path.{_≡_, refl, sym, ap, _∙_}
+use mathlib.Core.Path.{_≡_, refl, sym, ap, _∙_, subst}
 use mathlib.Core.List.{List, [], _∷_}
-use mathlib.Core.Bool.{Bool, true, false, _&&_, and-true, and-assoc, or-false, false≢true}
+use mathlib.Core.Bool.{Bool, true, false, not, _&&_, and-true, and-assoc, or-true, or-false, false≢true}
 use Prim.Native.Nat.{ℕ, suc, _+_, _*_, _-_, _%_, _<_, _≤_}
 use native.Mathlib.Omega.{arith}
 use native.Mathlib.Numerals.{add-one}
 use lib.ListN.{length, getD, drop, drop-of-length-le}
 use lib.Seq.{drop-cons}
 use lib.Dec.{eqb, leb, ltb}
-use borrow.Author.Tests.{le-leb, lt-leb, eqb-true, leb-true, leb-false}
+use borrow.Author.Tests.{le-leb, lt-leb, le-ltb, lt-ltb, eq-eqb, ne-eqb, eqb-true, leb-true, leb-false, not-true, not-false}
 use mir.Syntax.{w32}
 use mir.Val.{toZ}
 use Rattle.content.specs.Content.{contentOf}
@@ -96,6 +98,39 @@ module _ (s : List ℕ) (n cells : ℕ) (ok : Bool) (least i : ℕ) (so : SoFar 
 
   pub ended-in-bytes : n ≤ i → ok ≡ goodEntries cells (entriesOf n s)
   ended-in-bytes h = ended (entriesOf n s) cells ok least i so (omega (arith, entries-count n s))
+
+-- the same for a loop that goes on while all is good, and stops where something is not
+module _ (s : List ℕ) (n cells least i : ℕ) (so : SoFar (entriesOf n s) cells true least i) (h : i < n) (e : Entry) (is : e ≡ entryOf (drop (6 * i) s)) (g : Bool) (test : g ≡ goodEntry cells least e) where
+  next : SoFar (entriesOf n s) cells g (e .cell + 1) (i + 1)
+  next = turned-in-bytes s n cells true least i so h e is g test
+
+  pub goes-on-in-bytes : not g ≡ false → SoFar (entriesOf n s) cells true (e .cell + 1) (i + 1)
+  goes-on-in-bytes on = subst (λ (t : Bool). SoFar (entriesOf n s) cells t (e .cell + 1) (i + 1)) (not-false g on) next
+
+  pub stops-in-bytes : not g ≡ true → false ≡ goodEntries cells (entriesOf n s)
+  stops-in-bytes off = sym (next .whole ∙ rw (not-true g off))
+
+-- ---- one entry, test by test
+
+module _ (cells least : ℕ) (e : Entry) where
+  pub cell-low : e .cell < least → false ≡ goodEntry cells least e
+  cell-low h = rw (lt-leb least (e .cell) h)
+
+  module _ (up : least ≤ e .cell) where
+    pub cell-high : cells ≤ e .cell → false ≡ goodEntry cells least e
+    cell-high h = rw (le-leb least (e .cell) up, le-ltb (e .cell) cells h)
+
+    module _ (low : e .cell < cells) where
+      by-kind : goodEntry cells least e ≡ kindAndDay e
+      by-kind = rw (le-leb least (e .cell) up, lt-ltb (e .cell) cells low)
+
+      pub kind-day : e .kind ≡ 2 → true ≡ goodEntry cells least e
+      kind-day k = sym (by-kind ∙ rw (eq-eqb (e .kind) 2 k) (or-true (eqb (e .kind) 1 && eqb (e .day) 0)))
+
+      pub kind-other : (e .kind ≡ 2 → ⊥) → eqb (e .kind) 1 && eqb (e .day) 0 ≡ goodEntry cells least e
+      kind-other k = sym (by-kind ∙ rw (ne-eqb (e .kind) 2 k) (or-false (eqb (e .kind) 1 && eqb (e .day) 0)))
+
+pub ruleset entry-tests = (cell-low, cell-high, kind-day, kind-other)
 
 -- ---- good is its two parts
 

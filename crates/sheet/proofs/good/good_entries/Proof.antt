@@ -1,29 +1,33 @@
--- `good::good_entries` meets its contract: what is tested so far and the rest is the whole (`SoFar`).
+-- `good::good_entries` meets its contract: what is tested so far is good, and the rest is the whole (`SoFar`).
 -- Assumes nothing.
 use borrow.Author.Needs.{needs}
+use mathlib.Core.Bool.{true}
 use Prim.Native.Nat.{_-_, _≤_}
 use Rattle.layout.specs.Layout.{entriesOf}
-use Rattle.sheet.proofs.Laws.Good.{SoFar, begun, turned-in-bytes, ended-in-bytes}
+use Rattle.sheet.proofs.Laws.Good.{SoFar, begun, goes-on-in-bytes, stops-in-bytes, ended-in-bytes}
 use Rattle.sheet.proofs.good.good_entries.Statement.{statement}
 use Rattle.sheet.proofs.good.good_entries.Tie as tie
 
 abbrev Inv-loop : tie.InvT-loop
-Inv-loop s n cells count ok₀ least₀ i₀ ok least i = (i ≤ n) × SoFar (entriesOf n s) cells ok least i
+Inv-loop s n cells count least₀ i₀ least i = (i ≤ n) × SoFar (entriesOf n s) cells true least i
 
 abbrev μ-loop : tie.MeasureT-loop
-μ-loop s n cells count ok₀ least₀ i₀ ok least i = n - i
-
-mul-entry-from : tie.Need-mul-entry-from Inv-loop μ-loop
-mul-entry-from c = search needs
+μ-loop s n cells count least₀ i₀ least i = n - i
 
 loop-holds : tie.Need-loop-holds Inv-loop μ-loop
 loop-holds c = (search needs, begun _ _)
+
+mul-entry-from : tie.Need-mul-entry-from Inv-loop μ-loop
+mul-entry-from c = search needs
 
 entry-from-requires : tie.Need-entry-from-requires Inv-loop μ-loop
 entry-from-requires c κs = search needs
 
 good-entry-requires : tie.Need-good-entry-requires Inv-loop μ-loop
 good-entry-requires c κs = search needs
+
+returns : tie.Need-returns Inv-loop μ-loop
+returns c = search (stops-in-bytes, needs)
 
 cast-least : tie.Need-cast-least Inv-loop μ-loop
 cast-least c = search needs
@@ -38,10 +42,10 @@ loop-less : tie.Need-loop-less Inv-loop μ-loop
 loop-less c = search needs
 
 loop-again : tie.Need-loop-again Inv-loop μ-loop
-loop-again c = search (turned-in-bytes, needs)
+loop-again c = search (goes-on-in-bytes, needs)
 
-returns : tie.Need-returns Inv-loop μ-loop
-returns c = search (ended-in-bytes, needs)
+returns-2 : tie.Need-returns-2 Inv-loop μ-loop
+returns-2 c = search (ended-in-bytes, needs)
 
 pub good-entries-spec : {M : Type 1} → statement M
 good-entries-spec =
@@ -53,9 +57,10 @@ good-entries-spec =
     mul-entry-from
     entry-from-requires
     good-entry-requires
+    returns
     cast-least
     add-least
     add-i
     loop-less
     loop-again
-    returns)
+    returns-2)
