@@ -8,6 +8,7 @@ use lib.ListN.{length, drop}
 use Rattle.answer.specs.Answer.{Answer, refused, answered, _if_, answer}
 use Rattle.layout.specs.declared.Entry.{Entry}
 use Rattle.layout.specs.declared.Numbers.{Numbers}
+use Rattle.layout.specs.declared.Trailer.{Trailer}
 use Rattle.sheet.specs.declared.Reading.{Reading}
 use Rattle.sheet.specs.declared.Reading.the-variants as read
 use Rattle.layout.specs.Layout.{entryOf, entriesOf, trailerIn, numbersOf}
@@ -30,6 +31,13 @@ readingOf s = answer (13 if not (good s) ∷ []) (sheetIn s (numbersOf (trailerI
 abbrev pub saidRead : List ℕ → Reading → Answer Sheet
 saidRead s (read.Good n) = answered (sheetIn s n)
 saidRead s (read.Refused k) = refused k
+
+-- the trailer at the end of bytes; one of zeros, which is of no good sheet, where they are fewer than 12
+abbrev pub noTrailer : Trailer
+noTrailer = record { distance = 0; entries = 0; sender = 0; desks = 0; cells = 0; zero6 = 0; zero7 = 0; turn = 0 }
+
+unfoldable pub trailerAtEnd : List ℕ → Trailer
+trailerAtEnd s = cond (leb 12 (length s)) (trailerIn s) noTrailer
 
 -- entry k where it stands, before a trailer of 12 bytes; an entry of zeros, which is of no kind, where there is none: so a sheet has
 -- nothing behind its entries, and its trailer is never read as one

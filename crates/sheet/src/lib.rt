@@ -4,15 +4,17 @@
 // and its entries stay in the slice, where `entry_at` reads them one by one. What makes a sheet good
 // is in specs/Good.antt; what it is made of is the crate layout's.
 ghost use mathlib.Core.Path.{_≡_};
-ghost use Rattle.sheet.specs.Reading.{readingOf, saidRead, entryAt};
+ghost use Rattle.sheet.specs.Reading.{readingOf, saidRead, trailerAtEnd, entryAt};
 
 mod bytes;
 mod good;
 
+pub use good::good_entries;
 pub use good::good_entry;
 pub use good::good_trailer;
 use layout::Entry;
 use layout::Numbers;
+use layout::Trailer;
 
 pub enum Reading {
     // The numbers of a good sheet; its entries are the first `entries` in the slice.
@@ -32,10 +34,31 @@ pub fn read(s: &[u8]) -> Reading
     if !good_trailer(t, back) {
         return Reading::Refused(13);
     }
-    if !good::good_entries(s, t.entries, t.cells) {
+    if !good_entries(s, t.entries, t.cells) {
         return Reading::Refused(13);
     }
     Reading::Good(t.numbers())
+}
+
+// The trailer at the end of bytes, for whoever goes back through sheets that stand end to end; zeros,
+// which are of no good sheet, where the bytes are too few.
+pub fn trailer_of(s: &[u8]) -> Trailer
+    ensures { λ r. ⌜ r ≡ trailerAtEnd (now (s .entry)) ⌝ }
+{
+    if s.len() < 12 {
+        return Trailer {
+            distance: 0,
+            entries: 0,
+            sender: 0,
+            desks: 0,
+            cells: 0,
+            zero6: 0,
+            zero7: 0,
+            turn: 0,
+        };
+    }
+    let at = s.len() - 12;
+    bytes::trailer_at(s, at)
 }
 
 // Entry k of a sheet, counted from 0, where it stands; zeros, which are of no kind, where the sheet has

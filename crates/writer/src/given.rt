@@ -13,13 +13,13 @@ pub(crate) fn good_entries(es: [Entry; 64], n: usize, cells: u8) -> bool
     ensures { λ r. ⌜ Tested cells (take n es) r ⌝ }
 {
     let mut ok = true;
-    let mut least: u16 = 0;
+    let mut least: u32 = 0;
     let mut i: usize = 0;
     while i < n {
         let e = es[i];
         let fine = sheet::good_entry(cells, least, e);
         ok = ok & fine;
-        least = (e.cell as u16) + 1;
+        least = (e.cell as u32) + 1;
         i += 1;
     }
     ok

@@ -1,7 +1,7 @@
 -- Laws of `good` (specs/Good.antt) and of its parts (specs/Parts.antt).
 --   SoFar, begun, turned, ended              a loop over entries, wherever they stand; turned-in-bytes, ended-in-bytes
---   goes-on-in-bytes, stops-in-bytes         the same for a loop that stops where something is not good
---   entry-tests                              a set for `search`: one entry, test by test
+--   goes-on-in-bytes, stops-in-bytes, ends-in-bytes, cut-in-bytes    the same for a loop that stops where something is not good
+--   entry-tests, trailer-tests               sets for `search`: one entry, and a trailer, test by test
 --   good-is, too-short-is-bad                good is its two parts; fewer than 12 bytes are no sheet
 --   fair-trailer                             a good trailer's clauses as facts
 --   good-is-long, good-trailer-is-fair, good-entries-are, good-length, good-within    what a good sheet is known to be
@@ -11,7 +11,7 @@
 -- Assumes nothing.
 use mathlib.Core.Path.{_≡_, refl, sym, ap, _∙_, subst}
 use mathlib.Core.List.{List, [], _∷_}
-use mathlib.Core.Bool.{Bool, true, false, not, _&&_, and-true, and-assoc, or-true, or-false, false≢true}
+use mathlib.Core.Bool.{Bool, true, false, not, _&&_, and-true, and-assoc, and-false, or-true, or-false, false≢true}
 use Prim.Native.Nat.{ℕ, suc, _+_, _*_, _-_, _%_, _<_, _≤_}
 use native.Mathlib.Omega.{arith}
 use native.Mathlib.Numerals.{add-one}
@@ -32,7 +32,7 @@ use Rattle.sheet.specs.Promises.{OpenOrDay, is-open, is-day}
 use Rattle.layout.specs.Values.{DaysFit}
 use Rattle.sheet.specs.Reading.{noEntry}
 use Rattle.sheet.specs.Promises.{GoodWithin}
-use Rattle.sheet.specs.Clauses.{goodTrailer, goodEntry, goodEntries}
+use Rattle.sheet.specs.Clauses.{goodTrailer, goodEntry, goodEntries, goodEntriesIn}
 use Rattle.sheet.proofs.Laws.Bools.{in-any-order}
 use Rattle.layout.proofs.Laws.{entry-of-entries, entries-count, sheet-length, TrailerFits, entries-back, trailer-back}
 
@@ -107,8 +107,14 @@ module _ (s : List ℕ) (n cells least i : ℕ) (so : SoFar (entriesOf n s) cell
   pub goes-on-in-bytes : not g ≡ false → SoFar (entriesOf n s) cells true (e .cell + 1) (i + 1)
   goes-on-in-bytes on = subst (λ (t : Bool). SoFar (entriesOf n s) cells t (e .cell + 1) (i + 1)) (not-false g on) next
 
-  pub stops-in-bytes : not g ≡ true → false ≡ goodEntries cells (entriesOf n s)
-  stops-in-bytes off = sym (next .whole ∙ rw (not-true g off))
+  pub stops-in-bytes : not g ≡ true → false ≡ goodEntriesIn s n cells
+  stops-in-bytes off = sym (ap (λ (x : Bool). leb (6 * n) (length s) && x) (next .whole) ∙ rw (not-true g off) (and-false (leb (6 * n) (length s))))
+
+pub ends-in-bytes : (s : List ℕ) (n cells least i : ℕ) → SoFar (entriesOf n s) cells true least i → 6 * n ≤ length s → n ≤ i → true ≡ goodEntriesIn s n cells
+ends-in-bytes s n cells least i so room h = ended-in-bytes s n cells true least i so h ∙ sym (rw (le-leb (6 * n) (length s) room))
+
+pub cut-in-bytes : (s : List ℕ) (n cells : ℕ) → length s < 6 * n → false ≡ goodEntriesIn s n cells
+cut-in-bytes s n cells h = rw (lt-leb (6 * n) (length s) h)
 
 -- ---- one entry, test by test
 
@@ -245,3 +251,49 @@ open-or-day e g = by-kind (eqb (e .kind) 2) refl
         let one : eqb (e .kind) 1 && eqb (e .day) 0 ≡ true = sym (or-false _) ∙ (rw p at g) in
         let k : e .kind ≡ 1 = search tested in
         is-open k (ap (λ (x : ℕ). contentOf x (toZ w32 (e .day))) k)
+
+-- ---- a trailer, test by test
+
+one-by-one : (a d c s z t l : Bool) → a && (d && c) && s && z && (t && l) ≡ a && (d && (c && (s && z && (t && l))))
+one-by-one a d c s z t l = simp in-any-order
+
+module _ (t : Trailer) (back : ℕ) where
+  abbrev distances : Bool
+  distances = eqb (t .distance) (6 * t .entries) && eqb (t .distance) back
+
+  abbrev others : Bool
+  others = ltb (t .sender) (t .desks) && (eqb (t .zero6) 0 && eqb (t .zero7) 0)
+
+  abbrev turns : Bool
+  turns = leb (t .turn) 4294967294 && eqb (t .turn % t .desks) (t .sender)
+
+  in-turn : goodTrailer t back ≡ distances && (desksWithin (t .desks) && (cellsWithin (t .cells) && (others && turns)))
+  in-turn =
+      one-by-one distances (desksWithin (t .desks)) (cellsWithin (t .cells)) (ltb (t .sender) (t .desks)) (eqb (t .zero6) 0 && eqb (t .zero7) 0) (leb (t .turn) 4294967294) (eqb (t .turn % t .desks) (t .sender))
+
+  pub distance-off : not distances ≡ true → false ≡ goodTrailer t back
+  distance-off off = sym (in-turn ∙ rw (not-true distances off))
+
+  module _ (a : not distances ≡ false) where
+    pub desks-off : not (desksWithin (t .desks)) ≡ true → false ≡ goodTrailer t back
+    desks-off off = sym (in-turn ∙ rw (not-false distances a, not-true (desksWithin (t .desks)) off))
+
+    module _ (d : not (desksWithin (t .desks)) ≡ false) where
+      pub cells-off : not (cellsWithin (t .cells)) ≡ true → false ≡ goodTrailer t back
+      cells-off off = sym (in-turn ∙ rw (not-false distances a, not-false (desksWithin (t .desks)) d, not-true (cellsWithin (t .cells)) off))
+
+      module _ (c : not (cellsWithin (t .cells)) ≡ false) where
+        so-far : goodTrailer t back ≡ others && turns
+        so-far = in-turn ∙ rw (not-false distances a, not-false (desksWithin (t .desks)) d, not-false (cellsWithin (t .cells)) c)
+
+        pub others-off : not others ≡ true → false ≡ goodTrailer t back
+        others-off off = sym (so-far ∙ rw (not-true others off))
+
+        module _ (o : not others ≡ false) where
+          pub turn-off : 4294967294 < t .turn → false ≡ goodTrailer t back
+          turn-off h = sym (so-far ∙ rw (not-false others o, lt-leb (t .turn) 4294967294 h))
+
+          pub turn-left : t .turn ≤ 4294967294 → (left : ℕ) → left ≡ t .turn % t .desks → eqb left (t .sender) ≡ goodTrailer t back
+          turn-left h left is = ap (λ (k : ℕ). eqb k (t .sender)) is ∙ sym (so-far ∙ rw (not-false others o, le-leb (t .turn) 4294967294 h))
+
+pub ruleset trailer-tests = (distance-off, desks-off, cells-off, others-off, turn-off, turn-left)

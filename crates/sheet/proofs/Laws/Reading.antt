@@ -2,6 +2,7 @@
 --   readings                     a set for `search`: what `read` knows at each of its returns, and what it then answers
 --   good-read, bad-read          what reading gives, by `good` alone
 --   said-good, said-bad          what a reading says of `good`
+--   trailers                     a set for `search`: what `trailer_of` gives, by the length
 --   saidRead-tells-apart : ReadingsApart (specs/Promises.antt)
 --   entries-in-place : EntriesInPlace (specs/Promises.antt)
 -- Assumes nothing.
@@ -12,7 +13,7 @@ use Prim.Native.Nat.{ℕ, zero, suc, _+_, _*_, _-_, _<_, _≤_}
 use native.Mathlib.Omega.{arith}
 use native.Mathlib.Nat.{not-suc-le-zero, le-of-suc-le-suc}
 use lib.ListN.{length, getD}
-use borrow.Author.Tests.{le-leb, ltb-true, not-true, not-false}
+use borrow.Author.Tests.{le-leb, lt-leb, ltb-true, not-true, not-false}
 use Rattle.answer.specs.Answer.{refused, answered, _if_}
 use Rattle.answer.proofs.Laws.{answered-only-if, again, apart}
 use Rattle.layout.specs.declared.Entry.{Entry}
@@ -22,8 +23,8 @@ use Rattle.sheet.specs.declared.Reading.{Reading}
 use Rattle.sheet.specs.declared.Reading.the-variants as reading
 use Rattle.layout.specs.Layout.{entriesOf, trailerIn, numbersOf}
 use Rattle.sheet.specs.Good.{every, nextAbove, rising, below, kindAndDay, good}
-use Rattle.sheet.specs.Clauses.{goodTrailer, goodEntries}
-use Rattle.sheet.specs.Reading.{Sheet, sheetIn, readingOf, saidRead, noEntry, entryAt}
+use Rattle.sheet.specs.Clauses.{goodTrailer, goodEntries, goodEntriesIn}
+use Rattle.sheet.specs.Reading.{Sheet, sheetIn, readingOf, saidRead, noTrailer, trailerAtEnd, noEntry, entryAt}
 use Rattle.sheet.specs.Promises.{GoodEntry, EntriesStand, EntriesInPlace, ReadingsApart}
 use Rattle.numbers.proofs.Tests.{tested}
 use Rattle.layout.proofs.Laws.{entries-count, entry-of-entries}
@@ -54,20 +55,37 @@ module _ (s : List ℕ) where
     read-bad-trailer g test off = sym (bad-read s (good-by ∙ rw (← test, not-true g off)))
 
     module _ (g : Bool) (test : g ≡ goodTrailer t (length s - 12)) (on : not g ≡ false) where
-      pub read-room : 6 * t .entries ≤ length s
+      read-room : 6 * t .entries ≤ length s
       read-room = let f = fair-trailer t (length s - 12) (sym test ∙ not-false g on) in omega arith
 
       by-entries : good s ≡ goodEntries (t .cells) (entriesOf (t .entries) s)
       by-entries = good-by ∙ rw (← test, not-false g on)
 
-      pub read-bad-entries : (b : Bool) → b ≡ goodEntries (t .cells) (entriesOf (t .entries) s) → not b ≡ true → refused 13 ≡ readingOf s
-      read-bad-entries b tests off = sym (bad-read s (by-entries ∙ sym tests ∙ not-true b off))
+      -- the entries have room before the trailer
+      in-bytes : goodEntriesIn s (t .entries) (t .cells) ≡ goodEntries (t .cells) (entriesOf (t .entries) s)
+      in-bytes = rw (le-leb (6 * t .entries) (length s) read-room)
 
-      pub read-good : (b : Bool) → b ≡ goodEntries (t .cells) (entriesOf (t .entries) s) → not b ≡ false → (n : Numbers) → n ≡ numbersOf t → answered (sheetIn s n) ≡ readingOf s
+      pub read-bad-entries : (b : Bool) → b ≡ goodEntriesIn s (t .entries) (t .cells) → not b ≡ true → refused 13 ≡ readingOf s
+      read-bad-entries b tests off = sym (bad-read s (by-entries ∙ sym (tests ∙ in-bytes) ∙ not-true b off))
+
+      pub read-good : (b : Bool) → b ≡ goodEntriesIn s (t .entries) (t .cells) → not b ≡ false → (n : Numbers) → n ≡ numbersOf t → answered (sheetIn s n) ≡ readingOf s
       read-good b tests off n numbers =
-          ap (λ (x : Numbers). answered (sheetIn s x)) (numbers ∙ ap numbersOf is) ∙ sym (good-read s (by-entries ∙ sym tests ∙ not-false b off))
+          ap (λ (x : Numbers). answered (sheetIn s x)) (numbers ∙ ap numbersOf is) ∙ sym (good-read s (by-entries ∙ sym (tests ∙ in-bytes) ∙ not-false b off))
 
-pub ruleset readings = (read-short, read-bad-trailer, read-room, read-bad-entries, read-good)
+pub ruleset readings = (read-short, read-bad-trailer, read-bad-entries, read-good)
+
+-- ---- the trailer at the end
+
+module _ (s : List ℕ) where
+  pub trailer-none : length s < 12 → noTrailer ≡ trailerAtEnd s
+  unfolding trailerAtEnd
+  trailer-none h = rw (lt-leb 12 (length s) h)
+
+  pub trailer-there : 12 ≤ length s → (t : Trailer) → t ≡ trailerIn s → t ≡ trailerAtEnd s
+  unfolding trailerAtEnd
+  trailer-there h t is = is ∙ sym (rw (le-leb 12 (length s) h))
+
+pub ruleset trailers = (trailer-none, trailer-there)
 
 -- ---- the answer
 

@@ -4,7 +4,7 @@ use borrow.Author.Needs.{needs}
 use mathlib.Core.Bool.{true}
 use Prim.Native.Nat.{_-_, _≤_}
 use Rattle.layout.specs.Layout.{entriesOf}
-use Rattle.sheet.proofs.Laws.Good.{SoFar, begun, goes-on-in-bytes, stops-in-bytes, ended-in-bytes}
+use Rattle.sheet.proofs.Laws.Good.{SoFar, begun, goes-on-in-bytes, stops-in-bytes, ends-in-bytes, cut-in-bytes}
 use Rattle.sheet.proofs.good.good_entries.Statement.{statement}
 use Rattle.sheet.proofs.good.good_entries.Tie as tie
 
@@ -13,6 +13,12 @@ Inv-loop s n cells count least₀ i₀ least i = (i ≤ n) × SoFar (entriesOf n
 
 abbrev μ-loop : tie.MeasureT-loop
 μ-loop s n cells count least₀ i₀ least i = n - i
+
+mul-if1 : tie.Need-mul-if1 Inv-loop μ-loop
+mul-if1 c = search needs
+
+returns : tie.Need-returns Inv-loop μ-loop
+returns c = search (cut-in-bytes, needs)
 
 loop-holds : tie.Need-loop-holds Inv-loop μ-loop
 loop-holds c = (search needs, begun _ _)
@@ -26,8 +32,8 @@ entry-from-requires c κs = search needs
 good-entry-requires : tie.Need-good-entry-requires Inv-loop μ-loop
 good-entry-requires c κs = search needs
 
-returns : tie.Need-returns Inv-loop μ-loop
-returns c = search (stops-in-bytes, needs)
+returns-2 : tie.Need-returns-2 Inv-loop μ-loop
+returns-2 c = search (stops-in-bytes, needs)
 
 cast-least : tie.Need-cast-least Inv-loop μ-loop
 cast-least c = search needs
@@ -44,8 +50,8 @@ loop-less c = search needs
 loop-again : tie.Need-loop-again Inv-loop μ-loop
 loop-again c = search (goes-on-in-bytes, needs)
 
-returns-2 : tie.Need-returns-2 Inv-loop μ-loop
-returns-2 c = search (ended-in-bytes, needs)
+returns-3 : tie.Need-returns-3 Inv-loop μ-loop
+returns-3 c = search (ends-in-bytes, needs)
 
 pub good-entries-spec : {M : Type 1} → statement M
 good-entries-spec =
@@ -53,14 +59,16 @@ good-entries-spec =
     (tie.spec
     Inv-loop
     μ-loop
+    mul-if1
+    returns
     loop-holds
     mul-entry-from
     entry-from-requires
     good-entry-requires
-    returns
+    returns-2
     cast-least
     add-least
     add-i
     loop-less
     loop-again
-    returns-2)
+    returns-3)
