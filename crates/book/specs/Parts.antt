@@ -54,15 +54,10 @@ abbrev pub hitOf : Option Entry → Hit
 hitOf none = hit.None
 hitOf (some e) = hit.Entry e
 
--- the sheets that stepping back gives, until it gives none
-unfoldable pub untilNone : List (List ℕ) → List (List ℕ)
-untilNone [] = []
-untilNone (s ∷ ss) = cond (good s) (s ∷ untilNone ss) []
-
 abbrev pub foundOf : LastSet → Found
 foundOf blank = found.Blank
 foundOf (entry c turn) = found.Entry c turn
 
 -- a lookup in a book of so many cells, once it is known to be good
 unfoldable pub findOf : List ℕ → ℕ → ℕ → Answer LastSet
-findOf b cell cells = answer (6 if not (ltb cell cells) ∷ []) (newest cell (untilNone (sheetsOf b)))
+findOf b cell cells = answer (6 if not (ltb cell cells) ∷ []) (newest cell (sheetsOf b))

@@ -6,6 +6,7 @@ ghost use lib.ListN.{length, take};
 ghost use Rattle.book.specs.Sheets.{sheetsOf};
 ghost use Rattle.book.specs.Parts.{fitsBefore, olderOf, examinedOf, takesNext};
 use crate::Back;
+use crate::inside;
 use layout::Numbers;
 
 pub(crate) enum Examined {
@@ -55,7 +56,7 @@ fn sheets_before(book: &[u8], place: usize, newest: Numbers) -> Older
             start,
             end: _,
             numbers,
-        } = crate::step_back(book, at)
+        } = inside::tested_back(book, at)
         else {
             return Older::NotGood;
         };

@@ -11,6 +11,7 @@ ghost use Rattle.book.specs.Lookup.{lookupOf, saidFound};
 ghost use Rattle.book.specs.Adding.{Adds};
 
 mod examined;
+mod inside;
 mod newest;
 
 use content::Content;
@@ -57,10 +58,8 @@ pub fn step_back(book: &[u8], place: usize) -> Back
     if book.len() < place {
         return Back::None;
     }
-    if place < 12 {
-        return Back::None;
-    }
-    let size = (numbers::u16_of(book[place - 12], book[place - 11]) as usize) + 12;
+    let t = sheet::trailer_of(&book[..place]);
+    let size = (t.distance as usize) + 12;
     if place < size {
         return Back::None;
     }

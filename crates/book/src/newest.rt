@@ -1,13 +1,17 @@
 // The newest entry for a cell, found from a book's end.
 ghost use mathlib.Core.Path.{_≡_};
+ghost use mathlib.Core.Bool.{true};
 ghost use Prim.Native.Nat.{_+_, _*_, _≤_};
 ghost use lib.ListN.{length};
 ghost use Rattle.layout.specs.Layout.{entriesOf};
+ghost use Rattle.sheet.specs.Good.{good};
+ghost use Rattle.book.specs.Good.{everySheet};
 ghost use Rattle.book.specs.Sheets.{sheetsOf};
 ghost use Rattle.book.specs.Lookup.{entryOn, newest, saidFound};
-ghost use Rattle.book.specs.Parts.{hitOf, untilNone, foundOf, findOf};
+ghost use Rattle.book.specs.Parts.{hitOf, foundOf, findOf};
 use crate::Back;
 use crate::Found;
+use crate::inside;
 use layout::Entry;
 
 pub(crate) enum Hit {
@@ -17,6 +21,7 @@ pub(crate) enum Hit {
 
 // A lookup in a book of so many cells, which is known to be good. Refusal 6.
 pub(crate) fn find(book: &[u8], cell: u32, cells: u8) -> Found
+    requires { ⌜ everySheet good (sheetsOf (now book)) ≡ true ⌝ }
     ensures { λ r. ⌜ saidFound r ≡ findOf (now (book .entry)) cell cells ⌝ }
 {
     if (cells as u32) <= cell {
@@ -28,7 +33,8 @@ pub(crate) fn find(book: &[u8], cell: u32, cells: u8) -> Found
 // "When a step back gives no sheet, the lookup ends at once with that answer." "the lookup's answer is
 // then blank."
 fn entry(book: &[u8], cell: u8) -> Found
-    ensures { λ r. ⌜ r ≡ foundOf (newest cell (untilNone (sheetsOf (now (book .entry))))) ⌝ }
+    requires { ⌜ everySheet good (sheetsOf (now book)) ≡ true ⌝ }
+    ensures { λ r. ⌜ r ≡ foundOf (newest cell (sheetsOf (now (book .entry)))) ⌝ }
 {
     let mut place = book.len();
     loop {
@@ -36,7 +42,7 @@ fn entry(book: &[u8], cell: u8) -> Found
             start,
             end,
             numbers,
-        } = crate::step_back(book, place)
+        } = inside::known_back(book, place)
         else {
             return Found::Blank;
         };

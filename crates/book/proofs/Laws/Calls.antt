@@ -31,9 +31,8 @@ use Rattle.book.specs.Good.{numbersIn, everySheet, goodSheets, goodBook}
 use Rattle.book.specs.Counting.{countOf}
 use Rattle.book.specs.Lookup.{LastSet, blank, entry, newest, cellsOf, lookupOf, saidFound}
 use Rattle.book.specs.Adding.{becomes, addedOf, roomOf, Adds}
-use Rattle.book.specs.Parts.{fitsBefore, goodBefore, sheetsFound, examinedOf, takesNext, untilNone, foundOf, findOf}
+use Rattle.book.specs.Parts.{fitsBefore, goodBefore, sheetsFound, examinedOf, takesNext, foundOf, findOf}
 use Rattle.book.proofs.Laws.Good.{good-is-before, good-behind}
-use Rattle.book.proofs.Laws.Lookup.{until-all}
 
 -- ---- what a pass says of the book
 
@@ -110,9 +109,9 @@ module _ (b : List ℕ) (cell cells : ℕ) where
   unfolding findOf
   find-no-cell h = rw (le-ltb cell cells h)
 
-  pub find-newest : cell < cells → (r : Found) → r ≡ foundOf (newest cell (untilNone (sheetsOf b))) → saidFound r ≡ findOf b cell cells
+  pub find-newest : cell < cells → (r : Found) → r ≡ foundOf (newest cell (sheetsOf b)) → saidFound r ≡ findOf b cell cells
   unfolding findOf
-  find-newest h r is = ap saidFound is ∙ said-again (newest cell (untilNone (sheetsOf b))) ∙ sym (rw (lt-ltb cell cells h))
+  find-newest h r is = ap saidFound is ∙ said-again (newest cell (sheetsOf b)) ∙ sym (rw (lt-ltb cell cells h))
 
 pub ruleset finds = (find-no-cell, find-newest)
 
@@ -122,10 +121,18 @@ module _ (b : List ℕ) (cell : ℕ) (x : Examined) (is : x ≡ examinedOf b) wh
   lookup-bad e = rw (told-bad b x is e)
 
   found-is : goodBook b ≡ true → (cells : ℕ) → cells ≡ cellsOf (sheetsOf b) → (r : Found) → saidFound r ≡ findOf b cell cells → saidFound r ≡ lookupOf b cell
-  unfolding lookupOf findOf goodSheets
-  found-is g cells are r found =
-      let all : untilNone (sheetsOf b) ≡ sheetsOf b = until-all (sheetsOf b) (and-left _ _ (and-left _ _ g)) in
-      found ∙ rw (all, are, g)
+  unfolding lookupOf findOf
+  found-is g cells are r found = found ∙ rw (are, g)
+
+  each-good : goodBook b ≡ true → everySheet good (sheetsOf b) ≡ true
+  unfolding goodSheets
+  each-good g = and-left _ _ (and-left _ _ g)
+
+  pub lookup-empty-good : x ≡ examined.Empty → everySheet good (sheetsOf b) ≡ true
+  lookup-empty-good e = each-good (told-empty b x is e .0)
+
+  pub lookup-sheets-good : (k : ℕ) (n : Numbers) → x ≡ examined.Sheets k n → everySheet good (sheetsOf b) ≡ true
+  lookup-sheets-good k n e = each-good (told-sheets b x is k n e .0)
 
   pub lookup-empty : x ≡ examined.Empty → (r : Found) → saidFound r ≡ findOf b cell 64 → saidFound r ≡ lookupOf b cell
   lookup-empty e r found =
@@ -137,7 +144,7 @@ module _ (b : List ℕ) (cell : ℕ) (x : Examined) (is : x ≡ examinedOf b) wh
       let told = told-sheets b x is k n e in
       found-is (told .0) (n .cells) (its-cells k n (sheetsOf b) (told .1)) r found
 
-pub ruleset lookups = (lookup-bad, lookup-empty, lookup-sheets)
+pub ruleset lookups = (lookup-bad, lookup-empty-good, lookup-sheets-good, lookup-empty, lookup-sheets)
 
 -- ---- add
 

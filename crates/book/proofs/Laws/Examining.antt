@@ -44,6 +44,9 @@ module _ (b : List ℕ) (place : ℕ) (newest : Numbers) where
   older-begun h = record { within = h; few = omega arith; rest = refl; count = omega arith }
 
   module _ {at turn sheets : ℕ} (so : OlderSoFar b place newest at turn sheets) where
+    pub older-within : at ≤ length b
+    older-within = omega (arith, so .few, so .within)
+
     older-bad : goodBefore newest turn (sheetsOf (take at b)) ≡ false → older.NotGood ≡ whole
     older-bad g = rw (so .rest, g)
 
@@ -94,7 +97,7 @@ module _ (b : List ℕ) (place : ℕ) (newest : Numbers) where
                 count = so .count ∙ omega (arith, one);
               }
 
-pub ruleset olders = (older-begun, older-ended, older-none, older-less, older-fits, older-misfit, older-turned)
+pub ruleset olders = (older-begun, older-within, older-ended, older-none, older-less, older-fits, older-misfit, older-turned)
 
 -- ---- the whole book
 

@@ -1,10 +1,9 @@
--- Laws of `newest`, `entryOn` and `untilNone` (specs/Lookup.antt, specs/Parts.antt): a lookup, as the code goes.
+-- Laws of `newest` and `entryOn` (specs/Lookup.antt): a lookup, as the code goes.
 --   HitSoFar, hits                 the loop over a sheet's entries: what was passed over is another cell's; a set for `search`
 --   NewestSoFar, newests           the loop back through a book: no sheet so far has the cell; a set for `search`
---   until-all                      in a good book stepping back gives all sheets
 -- Assumes nothing.
 use mathlib.Core.Path.{_≡_, refl, sym, ap, _∙_, subst}
-use mathlib.Core.Bool.{Bool, true, false, cond}
+use mathlib.Core.Bool.{Bool, true, false, false≢true}
 use mathlib.Core.List.{List, [], _∷_}
 use mathlib.Core.Option.{Option, none, some}
 use Prim.Native.Nat.{ℕ, zero, suc, _+_, _*_, _-_, _<_, _≤_}
@@ -33,7 +32,7 @@ use Rattle.book.specs.Sheets.{lastSheet, before, sheetsOf}
 use Rattle.book.specs.Good.{numbersIn, everySheet}
 use Rattle.book.specs.Stepping.{partOf, stepBack}
 use Rattle.book.specs.Lookup.{LastSet, blank, entry, entriesIn, entryOn, orOlder, newest}
-use Rattle.book.specs.Parts.{hitOf, untilNone, foundOf}
+use Rattle.book.specs.Parts.{hitOf, foundOf}
 use Rattle.book.proofs.Laws.Sheets.{sheets-none, sheets-cut}
 use Rattle.book.proofs.Laws.Stepping.{Stepped, stepped, stepped-none}
 
@@ -84,25 +83,39 @@ pub ruleset hits = (hit-begun, hit-none, hit-found, hit-turned)
 
 pub record NewestSoFar (b : List ℕ) (cell place : ℕ) : Type 0 where
   pub within : place ≤ length b
-  pub passed : newest cell (untilNone (sheetsOf b)) ≡ newest cell (untilNone (sheetsOf (take place b)))
+  pub all-good : everySheet good (sheetsOf (take place b)) ≡ true
+  pub passed : newest cell (sheetsOf b) ≡ newest cell (sheetsOf (take place b))
 
 module _ (b : List ℕ) (cell : ℕ) where
   abbrev answer : Found
-  answer = foundOf (newest cell (untilNone (sheetsOf b)))
+  answer = foundOf (newest cell (sheetsOf b))
 
-  pub newest-begun : NewestSoFar b cell (length b)
-  newest-begun = record { within = omega arith; passed = rw (take-length b) }
+  pub newest-begun : everySheet good (sheetsOf b) ≡ true → NewestSoFar b cell (length b)
+  newest-begun g =
+      record {
+        within = omega arith;
+        all-good = ap (λ (l : List ℕ). everySheet good (sheetsOf l)) (take-length b) ∙ g;
+        passed = rw (take-length b);
+      }
+
+  module _ {place : ℕ} (so : NewestSoFar b cell place) where
+    -- a step back from there need not test the sheet
+    pub newest-known : 0 < place → good (lastSheet (take place b)) ≡ true
+    newest-known h =
+        let long : length (take place b) ≡ place = length-take-le place b (so .within) in
+        let cut = sheets-cut (take place b) (omega (arith, long)) in
+        and-split (good (lastSheet (take place b))) (everySheet good (sheetsOf (before (take place b)))) (sym (ap (everySheet good) cut) ∙ so .all-good) .0
 
   module _ {place : ℕ} (so : NewestSoFar b cell place) (r : Back) (is : r ≡ stepBack b place) where
-    none-left : r ≡ back.None → untilNone (sheetsOf (take place b)) ≡ []
-    unfolding untilNone
+    none-left : r ≡ back.None → sheetsOf (take place b) ≡ []
     none-left e = by-test (eqb (length (take place b)) 0) refl
       where
-        by-test : (t : Bool) → eqb (length (take place b)) 0 ≡ t → untilNone (sheetsOf (take place b)) ≡ []
-        by-test true t = rw (sheets-none (take place b) (eqb-true (length (take place b)) 0 t))
+        by-test : (t : Bool) → eqb (length (take place b)) 0 ≡ t → sheetsOf (take place b) ≡ []
+        by-test true t = sheets-none (take place b) (eqb-true (length (take place b)) 0 t)
         by-test false t =
             let some = eqb-false (length (take place b)) 0 t in
-            rw (sheets-cut (take place b) (omega arith), stepped-none b place r is e (so .within))
+            let long : length (take place b) ≡ place = length-take-le place b (so .within) in
+            absurd (false≢true (sym (stepped-none b place r is e (so .within)) ∙ newest-known so (omega (arith, long))))
 
     pub newest-none : r ≡ back.None → found.Blank ≡ answer
     unfolding newest
@@ -141,12 +154,12 @@ module _ (b : List ℕ) (cell : ℕ) where
             ∙ ap (λ (l : List ℕ). hitOf (entryOn cell (entriesOf (n .entries) l))) part
             ∙ ap (λ (x : Numbers). hitOf (entryOn cell (entriesOf (x .entries) (partOf b start place)))) (step .numbers-are)
 
-        goes-on : newest cell (untilNone (sheetsOf b)) ≡ orOlder has (n .turn) (newest cell (untilNone (sheetsOf (take start b))))
-        unfolding newest untilNone has
+        goes-on : newest cell (sheetsOf b) ≡ orOlder has (n .turn) (newest cell (sheetsOf (take start b)))
+        unfolding newest has
         goes-on =
             so .passed
-            ∙ rw (step .sheets-are, step .is-good)
-            (ap (λ (x : Numbers). orOlder (entryOn cell (entriesIn (partOf b start place))) (x .turn) (newest cell (untilNone (sheetsOf (take start b))))) (sym (step .numbers-are)))
+            ∙ rw (step .sheets-are)
+            (ap (λ (x : Numbers). orOlder (entryOn cell (entriesIn (partOf b start place))) (x .turn) (newest cell (sheetsOf (take start b)))) (sym (step .numbers-are)))
 
         is-none : h ≡ hit.None → has ≡ none
         is-none e = by-case has refl
@@ -173,7 +186,7 @@ module _ (b : List ℕ) (cell : ℕ) where
 
         pub newest-found : (x : Entry) → h ≡ hit.Entry x → (c : Content) → c ≡ contentIn x → found.Entry c (n .turn) ≡ answer
         newest-found x e c content =
-            let older = newest cell (untilNone (sheetsOf (take start b))) in
+            let older = newest cell (sheetsOf (take start b)) in
             ap (λ (y : Content). found.Entry y (n .turn)) content
             ∙ sym (ap foundOf (goes-on ∙ ap (λ (o : Option Entry). orOlder o (n .turn) older) (is-some x e)))
 
@@ -181,16 +194,8 @@ module _ (b : List ℕ) (cell : ℕ) where
         newest-turned e =
             record {
               within = omega (arith, step .starts, step .within);
+              all-good = and-split (good (partOf b start place)) (everySheet good (sheetsOf (take start b))) (sym (ap (everySheet good) (step .sheets-are)) ∙ so .all-good) .1;
               passed = goes-on ∙ rw (is-none e);
             }
 
-pub ruleset newests = (newest-begun, newest-none, newest-part-start, newest-part-end, newest-less, newest-room, newest-found, newest-turned)
-
--- ---- in a good book
-
-pub until-all : (ss : List (List ℕ)) → everySheet good ss ≡ true → untilNone ss ≡ ss
-unfolding untilNone
-until-all [] g = refl
-until-all (s ∷ ss) g =
-    let both = and-split (good s) (everySheet good ss) g in
-    rw (both .0) (ap (λ (l : List (List ℕ)). s ∷ l) (until-all ss (both .1)))
+pub ruleset newests = (newest-begun, newest-known, newest-none, newest-part-start, newest-part-end, newest-less, newest-room, newest-found, newest-turned)

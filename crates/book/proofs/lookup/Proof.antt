@@ -15,13 +15,13 @@ enum-told-2 : tie.Need-enum-told-2
 enum-told-2 c = search needs
 
 find-requires : tie.Need-find-requires
-find-requires c κs = search needs
+find-requires c κs = search (lookups, needs)
 
 enum-known-numbers : tie.Need-enum-known-numbers
 enum-known-numbers c = search needs
 
 find-requires-2 : tie.Need-find-requires-2
-find-requires-2 c κs = search needs
+find-requires-2 c κs = search (lookups, needs)
 
 returns : tie.Need-returns
 returns c = search (lookups, needs)

@@ -1,6 +1,8 @@
 -- `step_back` meets its contract: each return is one of the laws of crates/book/proofs/Laws/Stepping.antt.
 -- Assumes nothing.
 use borrow.Author.Needs.{needs}
+use mathlib.Core.Path.{sym}
+use lib.Seq.{length-take-le}
 use Rattle.book.proofs.Laws.Stepping.{steps, step-good, step-bad}
 use Rattle.book.proofs.step_back.Statement.{statement}
 use Rattle.book.proofs.step_back.Tie as tie
@@ -8,20 +10,11 @@ use Rattle.book.proofs.step_back.Tie as tie
 returns : tie.Need-returns
 returns c = search (steps, needs)
 
-returns-2 : tie.Need-returns-2
-returns-2 c = search (steps, needs)
+slice-aggregate-trailer-of : tie.Need-slice-aggregate-trailer-of
+slice-aggregate-trailer-of c = sym (length-take-le _ _ (search needs))
 
-shared-slice-read-u16-of : tie.Need-shared-slice-read-u16-of
-shared-slice-read-u16-of c = search needs
-
-sub-u16-of : tie.Need-sub-u16-of
-sub-u16-of c = search needs
-
-shared-slice-read-u16-of-2 : tie.Need-shared-slice-read-u16-of-2
-shared-slice-read-u16-of-2 c = search needs
-
-u16-of-requires : tie.Need-u16-of-requires
-u16-of-requires c κs = search needs
+trailer-of-requires : tie.Need-trailer-of-requires
+trailer-of-requires c κs = search needs
 
 cast-size : tie.Need-cast-size
 cast-size c = search needs
@@ -29,8 +22,8 @@ cast-size c = search needs
 add-size : tie.Need-add-size
 add-size c = search needs
 
-returns-3 : tie.Need-returns-3
-returns-3 c = search (steps, needs)
+returns-2 : tie.Need-returns-2
+returns-2 c = search (steps, needs)
 
 sub-read : tie.Need-sub-read
 sub-read c = search needs
@@ -50,30 +43,27 @@ enum-known-numbers c = search needs
 enum-told : tie.Need-enum-told
 enum-told c = search needs
 
-returns-4 : tie.Need-returns-4
-returns-4 c = step-good _ _ (search needs) (search needs) _ (search needs) (search needs) _ (c .before .before .before .read .ensures) _ (c .before .numbers .given .1)
+returns-3 : tie.Need-returns-3
+returns-3 c = step-good _ _ (search needs) _ (c .before .before .before .before .before .before .before .trailer-of .ensures) (search needs) _ (c .before .before .before .read .ensures) _ (c .before .numbers .given .1)
 
-returns-5 : tie.Need-returns-5
-returns-5 c = step-bad _ _ (search needs) (search needs) _ (search needs) (search needs) _ (c .before .before .read .ensures) _ (c .enum-told .given .1)
+returns-4 : tie.Need-returns-4
+returns-4 c = step-bad _ _ (search needs) _ (c .before .before .before .before .before .before .trailer-of .ensures) (search needs) _ (c .before .before .read .ensures) _ (c .enum-told .given .1)
 
 pub step-back-spec : {M : Type 1} → statement M
 step-back-spec =
     tie.close
     (tie.spec
     returns
-    returns-2
-    shared-slice-read-u16-of
-    sub-u16-of
-    shared-slice-read-u16-of-2
-    u16-of-requires
+    slice-aggregate-trailer-of
+    trailer-of-requires
     cast-size
     add-size
-    returns-3
+    returns-2
     sub-read
     part-read-start
     part-read-end
     read-requires
     enum-known-numbers
     enum-told
-    returns-4
-    returns-5)
+    returns-3
+    returns-4)

@@ -14,8 +14,8 @@ abbrev μ-loop : tie.MeasureT-loop
 loop-holds : tie.Need-loop-holds Inv-loop μ-loop
 loop-holds c = search (olders, needs)
 
-step-back-requires : tie.Need-step-back-requires Inv-loop μ-loop
-step-back-requires c κs = search (olders, needs)
+tested-back-requires : tie.Need-tested-back-requires Inv-loop μ-loop
+tested-back-requires c κs = search (olders, needs)
 
 enum-known-start : tie.Need-enum-known-start Inv-loop μ-loop
 enum-known-start c = search (olders, needs)
@@ -51,7 +51,7 @@ sheets-before-spec =
     Inv-loop
     μ-loop
     loop-holds
-    step-back-requires
+    tested-back-requires
     enum-known-start
     enum-told
     returns

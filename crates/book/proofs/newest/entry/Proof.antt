@@ -14,8 +14,8 @@ abbrev μ-loop : tie.MeasureT-loop
 loop-holds : tie.Need-loop-holds Inv-loop μ-loop
 loop-holds c = search (newests, needs)
 
-step-back-requires : tie.Need-step-back-requires Inv-loop μ-loop
-step-back-requires c κs = search (newests, needs)
+known-back-requires : tie.Need-known-back-requires Inv-loop μ-loop
+known-back-requires c κs = search (newests, needs)
 
 enum-known-start : tie.Need-enum-known-start Inv-loop μ-loop
 enum-known-start c = search (newests, needs)
@@ -63,7 +63,7 @@ entry-spec =
     Inv-loop
     μ-loop
     loop-holds
-    step-back-requires
+    known-back-requires
     enum-known-start
     enum-told
     returns
