@@ -41,15 +41,16 @@ struct Sheet<'a> {
 }
 
 impl<'a> Sheet<'a> {
-    /// The good sheet that ends where these bytes end, if one does.
-    fn at_end(bytes: &'a [u8]) -> Option<Sheet<'a>> {
+    /// The good sheet that ends where these bytes end, if one does, and the bytes before it.
+    fn split_last(bytes: &'a [u8]) -> Option<(&'a [u8], Sheet<'a>)> {
         let (before, trailer) = bytes.split_last_chunk::<TRAILER>()?;
         let &[d0, d1, count, sender, desks, cells, z0, z1, t0, t1, t2, t3] = trailer;
         let distance = usize::from(u16::from_le_bytes([d0, d1]));
         let turn = u32::from_le_bytes([t0, t1, t2, t3]);
-        let start = before.len().checked_sub(distance)?;
-        let (entries, _) = before[start..].as_chunks::<ENTRY>();
-        let good = distance == ENTRY * usize::from(count)
+        let start = before.len().checked_sub(ENTRY * usize::from(count))?;
+        let (before, body) = before.split_at(start);
+        let (entries, _) = body.as_chunks::<ENTRY>();
+        let good = distance == body.len()
             && (1..=MOST_DESKS).contains(&desks)
             && (1..=MOST_CELLS).contains(&cells)
             && sender < desks
@@ -57,17 +58,14 @@ impl<'a> Sheet<'a> {
             && turn < LAST_TURN
             && turn % u32::from(desks) == u32::from(sender)
             && entries_are_good(entries, cells);
-        good.then_some(Sheet {
+        let sheet = Sheet {
             entries,
             sender,
             desks,
             cells,
             turn,
-        })
-    }
-
-    fn len(&self) -> usize {
-        ENTRY * self.entries.len() + TRAILER
+        };
+        good.then_some((before, sheet))
     }
 
     fn content(&self, cell: u8) -> Option<Content> {
@@ -90,16 +88,13 @@ fn day(entry: &[u8; ENTRY]) -> i32 {
 
 /// "entries' cells rise strictly and are below cells; kinds, days .. are as above"
 fn entries_are_good(entries: &[[u8; ENTRY]], cells: u8) -> bool {
-    let mut least = 0;
-    for entry in entries {
-        let [cell, kind, ..] = *entry;
-        let kind_and_day = kind == DAY || kind == OPEN && day(entry) == 0;
-        if cell < least || cell >= cells || !kind_and_day {
-            return false;
-        }
-        least = cell + 1;
-    }
-    true
+    entries.is_sorted_by(|a, b| a[0] < b[0])
+        && entries.last().is_none_or(|last| last[0] < cells)
+        && entries.iter().all(|entry| match entry[1] {
+            OPEN => day(entry) == 0,
+            DAY => true,
+            _ => false,
+        })
 }
 
 // ---- Books
@@ -114,8 +109,8 @@ impl<'a> Iterator for Reader<'a> {
 
     /// "A step back gives none at the front or where no good sheet ends"
     fn next(&mut self) -> Option<Sheet<'a>> {
-        let sheet = Sheet::at_end(self.before)?;
-        self.before = &self.before[..self.before.len() - sheet.len()];
+        let sheet;
+        (self.before, sheet) = Sheet::split_last(self.before)?;
         Some(sheet)
     }
 }
@@ -164,8 +159,8 @@ fn lookup(book: &[u8], cell: u8) -> Answer<Option<(Content, u32)>> {
 /// The book's new length. Refusals: "13, then 23 for the book as it would become or a length
 /// beyond its room, then 11 for room".
 fn add(room: &mut [u8], len: usize, bytes: &[u8]) -> Answer<usize> {
-    let sheet = Sheet::at_end(bytes).ok_or(13)?;
-    if sheet.len() != bytes.len() {
+    let (before, sheet) = Sheet::split_last(bytes).ok_or(13)?;
+    if !before.is_empty() {
         return Err(13);
     }
     let (book, free) = room.split_at_mut_checked(len).ok_or(23)?;
@@ -183,8 +178,8 @@ fn add(room: &mut [u8], len: usize, bytes: &[u8]) -> Answer<usize> {
 
 /// Start and end of the sheet that ends at this place, if there is one.
 fn step_back(book: &[u8], place: usize) -> Option<(usize, usize)> {
-    let sheet = Sheet::at_end(book.get(..place)?)?;
-    Some((place - sheet.len(), place))
+    let (before, _) = Sheet::split_last(book.get(..place)?)?;
+    Some((before.len(), place))
 }
 
 // ---- Records: crates/roundbook/src/records.rt says how they are made
@@ -242,11 +237,12 @@ fn print_sheets(out: &mut impl Write, book: &[u8]) -> io::Result<()> {
     match test(book) {
         Ok(_) => {
             let mut reader = Reader { before: book };
+            let mut end = book.len();
             while let Some(sheet) = reader.next() {
-                let start = reader.before.len();
-                let (end, entries) = (start + sheet.len(), sheet.entries.len());
+                let (start, entries) = (reader.before.len(), sheet.entries.len());
                 let Sheet { turn, sender, .. } = sheet;
                 writeln!(out, "{start} {end} {turn} {sender} {entries}")?;
+                end = start;
             }
         }
         Err(number) => writeln!(out, "refused {number}")?,
