@@ -43,7 +43,8 @@ pub(crate) fn examine(book: &[u8]) -> Examined
     Examined::Sheets(sheets + 1, numbers)
 }
 
-// The sheets before a place, where a sheet with the newest's numbers starts: each is looked at once.
+// The sheets before a place, where a sheet with the newest's numbers starts: each is looked at
+// once.
 fn sheets_before(book: &[u8], place: usize, newest: Numbers) -> Older
     requires { ⌜ place ≤ length (now book) ⌝ }
     ensures { λ r. ⌜ r ≡ olderOf newest (newest .turn) (sheetsOf (take place (now (book .entry)))) ⌝ }

@@ -1,5 +1,5 @@
-// A step back inside a book, where something is known already: each gives what `step_back` gives, at
-// less cost. They are why a book is tested and looked up at one pass each.
+// A step back inside a book, where something is known already: each gives what `step_back` gives,
+// at less cost. They are why a book is tested and looked up at one pass each.
 ghost use mathlib.Core.Path.{_≡_};
 ghost use mathlib.Core.Bool.{true};
 ghost use Prim.Native.Nat.{_<_, _≤_};
@@ -9,8 +9,8 @@ ghost use Rattle.book.specs.Sheets.{lastSheet};
 ghost use Rattle.book.specs.Stepping.{stepBack};
 use crate::Back;
 
-// From a place in the book: the sheet is tested part by part where it stands, so that the compiler puts
-// the whole of it into the loop that calls it.
+// From a place in the book: the sheet is tested part by part where it stands, so that the compiler
+// puts the whole of it into the loop that calls it.
 pub(crate) fn tested_back(book: &[u8], place: usize) -> Back
     requires { ⌜ place ≤ length (now book) ⌝ }
     ensures { λ r. ⌜ r ≡ stepBack (now (book .entry)) place ⌝ }

@@ -1,5 +1,5 @@
-// A round book: sent sheets end to end in one lent slice, in turn order. 02, K1: "A book opens at its
-// end: the trailer gives the last sheet's start, and the sheet before ends there."
+// A round book: sent sheets end to end in one lent slice, in turn order. 02, K1: "A book opens at
+// its end: the trailer gives the last sheet's start, and the sheet before ends there."
 //
 // A book is any slice of bytes, of any length; a sheet of it stays where it lies. What makes a book
 // good is in specs/Good.antt. A reader that keeps its place is the crate reader's.
@@ -88,7 +88,8 @@ pub fn place_after(step: Back, place: usize) -> usize
     }
 }
 
-// "A book is good if every sheet is, all have the same desks and cells, and turn numbers rise by 1".
+// "A book is good if every sheet is, all have the same desks and cells, and turn numbers rise by
+// 1".
 pub fn good(book: &[u8]) -> bool
     ensures { λ r. ⌜ r ≡ goodBook (now (book .entry)) ⌝ }
 {
@@ -110,8 +111,8 @@ pub fn count(book: &[u8]) -> Counted
     }
 }
 
-// "A lookup gives the newest entry for a cell with its sheet's turn number, or blank if no sheet has
-// one". Refusals 23, 6.
+// "A lookup gives the newest entry for a cell with its sheet's turn number, or blank if no sheet
+// has one". Refusals 23, 6.
 pub fn lookup(book: &[u8], cell: u32) -> Found
     ensures { λ r. ⌜ saidFound r ≡ lookupOf (now (book .entry)) cell ⌝ }
 {
@@ -122,8 +123,8 @@ pub fn lookup(book: &[u8], cell: u32) -> Found
     }
 }
 
-// "A sheet is added at the end; other bytes stay": at the end of the book of this length, which stands
-// at the front of its room. Refusals 13, 23, 11.
+// "A sheet is added at the end; other bytes stay": at the end of the book of this length, which
+// stands at the front of its room. Refusals 13, 23, 11.
 pub fn add(room: &mut [u8], len: usize, s: &[u8]) -> Added
     ensures { λ r. ⌜ Adds (now (room .entry)) len (now (s .entry)) r (now (room .exit)) ⌝ }
 {

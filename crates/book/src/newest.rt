@@ -30,8 +30,8 @@ pub(crate) fn find(book: &[u8], cell: u32, cells: u8) -> Found
     entry(book, cell as u8)
 }
 
-// "When a step back gives no sheet, the lookup ends at once with that answer." "the lookup's answer is
-// then blank."
+// "When a step back gives no sheet, the lookup ends at once with that answer." "the lookup's answer
+// is then blank."
 fn entry(book: &[u8], cell: u8) -> Found
     requires { ⌜ everySheet good (sheetsOf (now book)) ≡ true ⌝ }
     ensures { λ r. ⌜ r ≡ foundOf (newest cell (sheetsOf (now (book .entry)))) ⌝ }

@@ -1,6 +1,7 @@
-// Numbers as bytes, and two leaves that others need, `magnitude` and `left_by`. 01, "A sheet and its trailer": "All numbers low byte first", and a day is
-// "4, two's complement". Whoever reads or writes a sheet, a tray or a record's bytes goes by this
-// crate, and a day's two's complement pattern is met nowhere else than in `signed` and `pattern`.
+// Numbers as bytes, and three leaves that others need, `magnitude`, `without_sign` and `left_by`.
+// 01, "A sheet and its trailer": "All numbers low byte first", and a day is "4, two's complement".
+// Whoever reads or writes a sheet, a tray or a record's bytes goes by this crate, and a day's two's
+// complement pattern is met nowhere else than in `signed` and `pattern`.
 //
 // No function here refuses: each takes every value of its types.
 ghost use mathlib.Core.Path.{_≡_};

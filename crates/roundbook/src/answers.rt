@@ -29,8 +29,8 @@ fn say_day(day: i32) {
     say_number(b"", numbers::without_sign(day));
 }
 
-// An entry's content. No entry that is found is blank: the word is here so that a wrong answer would
-// show.
+// An entry's content. No entry that is found is blank: the word is here so that a wrong answer
+// would show.
 fn say_content(c: Content) {
     match c {
         Content::Blank => say(b"blank"),

@@ -1,5 +1,5 @@
-// The book's file, replaced whole. What is to stand in it is written into a file beside it, of its name
-// and `.new`, which is made before the book is read: while it is there, nobody else adds.
+// The book's file, replaced whole. What is to stand in it is written into a file beside it, of its
+// name and `.new`, which is made before the book is read: while it is there, nobody else adds.
 use crate::slices;
 
 // The name of that file: argument 3, and `.new` behind it; none where it has no room.

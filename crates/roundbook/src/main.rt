@@ -65,8 +65,8 @@ fn lent(size: usize, most: usize) -> usize {
     if size < most { size } else { most }
 }
 
-// Adds the sheet to the book with room for so many bytes, and puts the new book in the file's place;
-// or says why not. The answer is whether the file was replaced.
+// Adds the sheet to the book with room for so many bytes, and puts the new book in the file's
+// place; or says why not. The answer is whether the file was replaced.
 fn add_in(room: &mut [u8], fd: i32, s: &[u8], size: usize) -> bool {
     let Input::Read(len) = book_in(room) else {
         return false;

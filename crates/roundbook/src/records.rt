@@ -86,8 +86,8 @@ fn size(head: usize, one: usize, other: usize, most: usize) -> usize {
     head + one + other
 }
 
-// The record that adds, at the front: its size, or 0. The sheet is copied, since it stands in one lent
-// slice with the room.
+// The record that adds, at the front: its size, or 0. The sheet is copied, since it stands in one
+// lent slice with the room.
 fn play_adding(rest: &mut [u8]) -> usize {
     let len = long_number(slices::part(rest, 1, 9));
     let sheet = numbers::u16_of(byte_at(rest, 9), byte_at(rest, 10)) as usize;

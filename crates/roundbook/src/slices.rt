@@ -1,5 +1,5 @@
-// Parts of lent bytes, for a program that has looked at its lengths: where there is no such part it is
-// empty.
+// Parts of lent bytes, for a program that has looked at its lengths: where there is no such part it
+// is empty.
 pub(crate) fn part(s: &[u8], from: usize, to: usize) -> &[u8] {
     if s.len() < to {
         return &s[..0];

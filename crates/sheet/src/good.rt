@@ -27,8 +27,8 @@ pub fn good_trailer(t: Trailer, back: usize) -> bool
     numbers::left_by(t.turn, t.desks) == (t.sender as u32)
 }
 
-// An entry of a sheet with so many cells, whose cell is to be `least` or above: 0 for the first entry,
-// else one more than the cell before.
+// An entry of a sheet with so many cells, whose cell is to be `least` or above: 0 for the first
+// entry, else one more than the cell before.
 pub fn good_entry(cells: u8, least: u32, e: Entry) -> bool
     ensures { λ r. ⌜ r ≡ goodEntry cells least e ⌝ }
 {
@@ -44,8 +44,8 @@ pub fn good_entry(cells: u8, least: u32, e: Entry) -> bool
     (e.kind == 1) & (e.day == 0)
 }
 
-// The first n entries of bytes, each looked at once, up to the first that is not good; none is where
-// the bytes end before them.
+// The first n entries of bytes, each looked at once, up to the first that is not good; none is
+// where the bytes end before them.
 pub fn good_entries(s: &[u8], n: u8, cells: u8) -> bool
     ensures { λ r. ⌜ r ≡ goodEntriesIn (now (s .entry)) n cells ⌝ }
 {

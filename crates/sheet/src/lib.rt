@@ -1,8 +1,8 @@
 // A sheet, read where it lies. 01, "A sheet and its trailer".
 //
 // `read` takes any slice, in one pass and without a copy: a good sheet gives its trailer's numbers,
-// and its entries stay in the slice, where `entry_at` reads them one by one. What makes a sheet good
-// is in specs/Good.antt; what it is made of is the crate layout's.
+// and its entries stay in the slice, where `entry_at` reads them one by one. What makes a sheet
+// good is in specs/Good.antt; what it is made of is the crate layout's.
 ghost use mathlib.Core.Path.{_≡_};
 ghost use Rattle.sheet.specs.Reading.{readingOf, saidRead, trailerAtEnd, entryAt};
 
@@ -40,12 +40,13 @@ pub fn read(s: &[u8]) -> Reading
     Reading::Good(t.numbers())
 }
 
-// The trailer at the end of bytes, for whoever goes back through sheets that stand end to end; zeros,
-// which are of no good sheet, where the bytes are too few.
+// The trailer at the end of bytes, for whoever goes back through sheets that stand end to end;
+// zeros, which are of no good sheet, where the bytes are too few.
 pub fn trailer_of(s: &[u8]) -> Trailer
     ensures { λ r. ⌜ r ≡ trailerAtEnd (now (s .entry)) ⌝ }
 {
-    if s.len() < 12 {
+    let len = s.len();
+    if len < 12 {
         return Trailer {
             distance: 0,
             entries: 0,
@@ -57,12 +58,12 @@ pub fn trailer_of(s: &[u8]) -> Trailer
             turn: 0,
         };
     }
-    let at = s.len() - 12;
+    let at = len - 12;
     bytes::trailer_at(s, at)
 }
 
-// Entry k of a sheet, counted from 0, where it stands; zeros, which are of no kind, where the sheet has
-// no entry k: the trailer, its last 12 bytes, is never read as an entry.
+// Entry k of a sheet, counted from 0, where it stands; zeros, which are of no kind, where the sheet
+// has no entry k: the trailer, its last 12 bytes, is never read as an entry.
 pub fn entry_at(s: &[u8], k: u8) -> Entry
     ensures { λ r. ⌜ r ≡ entryAt (now (s .entry)) k ⌝ }
 {

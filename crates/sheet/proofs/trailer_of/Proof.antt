@@ -8,9 +8,6 @@ use Rattle.sheet.proofs.trailer_of.Tie as tie
 returns : tie.Need-returns
 returns c = search (trailers, needs)
 
-sub-at : tie.Need-sub-at
-sub-at c = search needs
-
 trailer-at-requires : tie.Need-trailer-at-requires
 trailer-at-requires c κs = search needs
 
@@ -18,4 +15,4 @@ returns-2 : tie.Need-returns-2
 returns-2 c = search (trailers, needs)
 
 pub trailer-of-spec : {M : Type 1} → statement M
-trailer-of-spec = tie.close (tie.spec returns sub-at trailer-at-requires returns-2)
+trailer-of-spec = tie.close (tie.spec returns trailer-at-requires returns-2)
