@@ -1,5 +1,5 @@
--- 02, K1: "A sheet is added at the end; other bytes stay." "when adding, 13, then 23 for the book as it would become or a length beyond its room,
--- then 11 for room."
+-- 02, K1: "A sheet is added at the end; other bytes stay." "when adding, 13, then 23 for the book
+-- as it would become or a length beyond its room, then 11 for room."
 -- Assumes nothing.
 use mathlib.Core.Path.{_≡_}
 use Prim.Native.Nat.{ℕ, _+_, _-_}
@@ -13,7 +13,8 @@ use Rattle.book.specs.declared.Added.{Added}
 use Rattle.book.specs.declared.Added.the-variants as added
 use Rattle.book.specs.Good.{goodBook}
 
--- "the book as it would become": the book of this length at the room's front, and the sheet behind it, whether it has room there or not
+-- "the book as it would become": the book of this length at the room's front, and the sheet behind
+-- it, whether it has room there or not
 abbrev pub becomes : List ℕ → ℕ → List ℕ → List ℕ
 becomes room len s = take len room ++ s
 

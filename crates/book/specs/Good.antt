@@ -1,5 +1,5 @@
--- 02, K1: "A book is good if every sheet is, all have the same desks and cells, and turn numbers rise by 1; the first number may be any, and
--- a book of no bytes is good."
+-- 02, K1: "A book is good if every sheet is, all have the same desks and cells, and turn numbers
+-- rise by 1; the first number may be any, and a book of no bytes is good."
 -- Assumes nothing.
 use Prim.Native.Nat.{ℕ, _+_}
 use mathlib.Core.Bool.{Bool, true, _&&_}

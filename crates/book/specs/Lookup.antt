@@ -1,5 +1,6 @@
--- 02, K1: "A lookup gives the newest entry for a cell with its sheet's turn number, or blank if no sheet has one; a book of no bytes counts as
--- having 64 cells." "Refusals: 23, book not good, before 6".
+-- 02, K1: "A lookup gives the newest entry for a cell with its sheet's turn number, or blank if no
+-- sheet has one; a book of no bytes counts as having 64 cells." "Refusals: 23, book not good,
+-- before 6".
 -- Assumes nothing.
 use Prim.Native.Nat.{ℕ}
 use mathlib.Core.Bool.{cond, not}
@@ -15,7 +16,8 @@ use Rattle.book.specs.declared.Found.the-variants as found
 use Rattle.book.specs.Sheets.{sheetsOf}
 use Rattle.book.specs.Good.{numbersIn, goodBook}
 
--- what a lookup finds: blank, an answer of its own without a number; or the content of an entry, and the turn number of its sheet
+-- what a lookup finds: blank, an answer of its own without a number; or the content of an entry,
+-- and the turn number of its sheet
 pub data LastSet : Type 0 where
   blank : LastSet
   entry : Content → ℕ → LastSet
@@ -34,7 +36,8 @@ abbrev pub orOlder : Option Entry → ℕ → LastSet → LastSet
 orOlder none turn older = older
 orOlder (some e) turn older = entry (contentIn e) turn
 
--- "the newest entry for a cell with its sheet's turn number, or blank if no sheet has one": of sheets, the newest first
+-- "the newest entry for a cell with its sheet's turn number, or blank if no sheet has one": of
+-- sheets, the newest first
 unfoldable pub newest : ℕ → List (List ℕ) → LastSet
 newest cell [] = blank
 newest cell (s ∷ older) = orOlder (entryOn cell (entriesIn s)) (numbersIn s .turn) (newest cell older)

@@ -1,4 +1,5 @@
--- What the crate's own functions find. Nobody need believe it: the public promises are in the files beside it.
+-- What the crate's own functions find. Nobody need believe it: the public promises are in the files
+-- beside it.
 -- Assumes nothing.
 use Prim.Native.Nat.{ℕ, _+_}
 use mathlib.Core.Bool.{Bool, true, false, cond, not, _&&_}

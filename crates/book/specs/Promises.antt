@@ -1,5 +1,5 @@
--- What is promised of the calls on a book beside their contracts. proofs/Laws/Answers.antt proves it. What is proved of books is stated in
--- crates/booked.
+-- What is promised of the calls on a book beside their contracts. proofs/Laws/Answers.antt proves
+-- it. What is proved of books is stated in crates/booked.
 -- Assumes nothing.
 use mathlib.Core.Path.{_≡_}
 use Rattle.book.specs.declared.Counted.{Counted}

@@ -1,4 +1,5 @@
--- Laws of the calls (specs/Counting.antt, specs/Lookup.antt, specs/Adding.antt), by what one pass through the book finds.
+-- Laws of the calls (specs/Counting.antt, specs/Lookup.antt, specs/Adding.antt), by what one pass
+-- through the book finds.
 --   told-bad, told-empty, told-sheets      what it says of the book
 --   goods, counts, finds, lookups, addings sets for `search`: what each call knows at each of its returns, and what it answers
 -- Assumes nothing.

@@ -1,4 +1,5 @@
--- Laws of `examinedOf` and `olderOf` (specs/Parts.antt): one pass back through a book, as the code goes.
+-- Laws of `examinedOf` and `olderOf` (specs/Parts.antt): one pass back through a book, as the code
+-- goes.
 --   OlderSoFar, olders             the loop over the sheets before a place: what was looked at so far, and the rest, is the whole; a set for `search`
 --   examines                       a set for `search`: what the pass knows at each of its returns, and what it answers
 -- Assumes nothing.

@@ -1,4 +1,5 @@
--- `step_back` meets its contract: each return is one of the laws of crates/book/proofs/Laws/Stepping.antt.
+-- `step_back` meets its contract: each return is one of the laws of
+-- crates/book/proofs/Laws/Stepping.antt.
 -- Assumes nothing.
 use borrow.Author.Needs.{needs}
 use mathlib.Core.Path.{sym}

@@ -1,4 +1,5 @@
--- `sheets_before` meets its contract: what was looked at so far, and the rest, is the whole (`OlderSoFar`).
+-- `sheets_before` meets its contract: what was looked at so far, and the rest, is the whole
+-- (`OlderSoFar`).
 -- Assumes nothing.
 use borrow.Author.Needs.{needs}
 use Rattle.book.proofs.Laws.Examining.{OlderSoFar, olders}
