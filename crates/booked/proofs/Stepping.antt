@@ -1,4 +1,5 @@
 -- What specs/Stepping.antt states of a step, and of stepping back through a book.
+--   sheet-is-not-none              a step that gives a sheet does not give none
 --   step-gives : StepGives stepBack, step-none : StepNone stepBack
 --   none-at-the-front : NoneAtTheFront stepBack
 --   steps-through : StepsThrough stepBack placeAfter
@@ -26,7 +27,7 @@ use Rattle.booked.specs.Stepping.{SheetEndsAt, StepGives, StepNone, None
 
 -- ---- one step
 
-sheet-is-not-none : (start end : ℕ) (n : Numbers) → Sheet start end n ≡ None → ⊥
+pub sheet-is-not-none : (start end : ℕ) (n : Numbers) → Sheet start end n ≡ None → ⊥
 sheet-is-not-none start end n e = let z : _≡_ {A = ℕ} 0 1 = cc in omega arith
 
 module _ (b : List ℕ) (place start : ℕ) (ends : SheetEndsAt b place start) where
