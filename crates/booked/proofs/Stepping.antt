@@ -3,7 +3,7 @@
 --   step-gives : StepGives stepBack, step-none : StepNone stepBack
 --   none-at-the-front : NoneAtTheFront stepBack
 --   steps-through : StepsThrough stepBack placeAfter
---   steps-once : StepsOnce, of any step
+--   steps-once : StepsOnce
 -- Assumes nothing.
 use mathlib.Core.Path.{_≡_, refl, sym, ap, _∙_, subst}
 use mathlib.Core.Bool.{true}
@@ -111,5 +111,5 @@ once {step} {next} {b} {place} (one-back {start = start} {end = end} {n = n} {ol
     let rest : older ≡ older′ = once s (subst (λ (x : Back). GivesBack step next b (next x place) older′) same t) in
     ap (λ (i : ℕ). partOf b i end ∷ older) starts ∙ ap (λ (i : ℕ). partOf b start′ i ∷ older) ends ∙ ap (λ (l : List (List ℕ)). partOf b start′ end′ ∷ l) rest
 
-pub steps-once : (step : List ℕ → ℕ → Back) (next : Back → ℕ → ℕ) → StepsOnce step next
+pub steps-once : StepsOnce
 steps-once step next b place ss ts = once

@@ -22,7 +22,6 @@ use Rattle.pending.specs.Pending.{pendingBelow, sheetOf}
 use Rattle.runs.specs.Call.{Call, sends}
 use Rattle.runs.specs.Run.{Shelf, start, after, Run, RunOn, afterAll}
 use Rattle.desk.specs.Calls.{document01, openOf, sendOf}
-use Rattle.book.specs.declared.Back.the-variants.{Sheet, None}
 use Rattle.book.specs.Good.{numbersIn}
 use Rattle.book.specs.Stepping.{stepBack}
 use Rattle.book.specs.Lookup.{LastSet, blank, entry}
@@ -66,9 +65,7 @@ beyond-gives part = let ends = part daySheet 19 0 19 (numbersIn daySheet) .0 ref
 beyond-none : StepNone stepBeyond → ⊥
 unfolding computing stepBeyond
 beyond-none part =
-    let none : Sheet 0 19 (numbersIn daySheet) ≡ None = part daySheet 19 .1 (λ start ends. omega (arith, ends .in-book)) in
-    let z : _≡_ {A = ℕ} 0 1 = cc in
-    omega arith
+    sheet-is-not-none 0 19 (numbersIn daySheet) (part daySheet 19 .1 (λ start ends. omega (arith, ends .in-book)))
 
 at-front : NoneAtTheFront stepAtFront → ⊥
 unfolding stepAtFront
@@ -77,10 +74,7 @@ at-front part = sheet-is-not-none 0 0 (numbersIn []) (part [])
 -- it gives the sheet again and again
 no-end : {place : ℕ} {ss : List (List ℕ)} → GivesBack stepBack stays daySheet place ss → place ≡ 18 → ⊥
 unfolding computing stays
-no-end {place} (none-comes e) at =
-    let none : Sheet 0 18 (numbersIn daySheet) ≡ None = ap (stepBack daySheet) (sym at) ∙ e in
-    let z : _≡_ {A = ℕ} 0 1 = cc in
-    omega arith
+no-end (none-comes e) at = sheet-is-not-none 0 18 (numbersIn daySheet) (ap (stepBack daySheet) (sym at) ∙ e)
 no-end (one-back e further) at = no-end further at
 
 stays-there : StepsThrough stepBack stays → ⊥

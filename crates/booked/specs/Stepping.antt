@@ -57,7 +57,8 @@ abbrev pub StepsThrough : (List ℕ → ℕ → Back) → (Back → ℕ → ℕ)
 StepsThrough step next =
     (ss : List (List ℕ)) → everySheet good ss ≡ true → GivesBack step next (endToEnd ss) (length (endToEnd ss)) ss
 
--- and no other list, from any place
-abbrev pub StepsOnce : (List ℕ → ℕ → Back) → (Back → ℕ → ℕ) → Type 0
-StepsOnce step next =
-    (b : List ℕ) (place : ℕ) (ss ts : List (List ℕ)) → GivesBack step next b place ss → GivesBack step next b place ts → ss ≡ ts
+-- and no other list, from any place: that is so whatever a step gives, and says nothing of a call
+abbrev pub StepsOnce : Type 0
+StepsOnce =
+    (step : List ℕ → ℕ → Back) (next : Back → ℕ → ℕ) (b : List ℕ) (place : ℕ) (ss ts : List (List ℕ))
+    → GivesBack step next b place ss → GivesBack step next b place ts → ss ≡ ts
