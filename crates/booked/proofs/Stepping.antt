@@ -1,7 +1,7 @@
 -- What specs/Stepping.antt states of a step, and of stepping back through a book.
 --   sheet-is-not-none              a step that gives a sheet does not give none
 --   step-gives : StepGives stepBack, step-none : StepNone stepBack
---   none-at-the-front : NoneAtTheFront stepBack
+--   none-at-the-front : NoneAtTheFront stepBack, after-a-step : AfterAStep placeAfter
 --   steps-through : StepsThrough stepBack placeAfter
 --   steps-once : StepsOnce
 -- Assumes nothing.
@@ -23,7 +23,7 @@ use Rattle.book.specs.Good.{numbersIn, everySheet}
 use Rattle.book.specs.Stepping.{partOf, stepBack, placeAfter}
 use Rattle.book.proofs.Laws.Sheets.{start-behind}
 use Rattle.book.proofs.Laws.Stepping.{part-is, step-sheet, stepped}
-use Rattle.booked.specs.Stepping.{SheetEndsAt, StepGives, StepNone, NoneAtTheFront, GivesBack, none-comes, one-back, StepsThrough, StepsOnce}
+use Rattle.booked.specs.Stepping.{SheetEndsAt, StepGives, StepNone, NoneAtTheFront, AfterAStep, GivesBack, none-comes, one-back, StepsThrough, StepsOnce}
 
 -- ---- one step
 
@@ -69,6 +69,9 @@ pub none-at-the-front : NoneAtTheFront stepBack
 none-at-the-front b =
     step-none b 0 .1
     (λ start ends. omega (arith, good-is-long (partOf b start 0) (ends .is-good), length-take (0 - start) (drop start b)))
+
+pub after-a-step : AfterAStep placeAfter
+after-a-step = record { at-its-start = λ start end n place. refl; where-it-was = λ place. refl }
 
 -- ---- from a place on
 

@@ -26,12 +26,12 @@ use Rattle.book.specs.Good.{numbersIn}
 use Rattle.book.specs.Stepping.{stepBack}
 use Rattle.book.specs.Lookup.{LastSet, blank, entry}
 use Rattle.booked.specs.OneList.{GoodExactly, NoBytesAreGood, AnyFirstNumber, CountsThem}
-use Rattle.booked.specs.Stepping.{StepGives, StepNone, NoneAtTheFront, StepsThrough, GivesBack, none-comes, one-back}
+use Rattle.booked.specs.Stepping.{StepGives, StepNone, NoneAtTheFront, AfterAStep, StepsThrough, GivesBack, none-comes, one-back}
 use Rattle.booked.specs.Lookups.{here, LastSheetWith, LookupRefuses, NoBytesHave64Cells}
 use Rattle.booked.specs.Laid.{FoundIsLaid, NoEntryIsBlank}
 use Rattle.booked.specs.Adding.{adding02, AddedTo, AddedLookup, AddRefused, AddsIf, NoneAfterTheLast}
 use Rattle.booked.specs.OfARun.{RunsBookIsGood, EachIsAdded, LastSent}
-use Rattle.booked.specs.WrongBooks.{daySheet, openSheet, empty1, empty2, emptyLast, empty0, sheetsAlone, someBytes, fromNumber0, countUntested, stepBeyond, stepAtFront, stays, oldest, lookOldest, lookDay0, lookNewestNumber, lookUntested, look6First, lookNoBytes, laidFirst, laysFirst, zerosPast, clearsTheRest, roomFirst, testsRoomFirst, oneByteMore, wantsOneByteMore, wrapped, wraps, EachBites}
+use Rattle.booked.specs.WrongBooks.{daySheet, openSheet, empty1, empty2, emptyLast, empty0, sheetsAlone, someBytes, fromNumber0, countUntested, stepBeyond, stepAtFront, stays, toFront, oldest, lookOldest, lookDay0, lookNewestNumber, lookUntested, look6First, lookNoBytes, laidFirst, laysFirst, zerosPast, clearsTheRest, roomFirst, testsRoomFirst, oneByteMore, wantsOneByteMore, wrapped, wraps, EachBites}
 use Rattle.booked.proofs.Laws.Newest.{entry-is-not-blank}
 use Rattle.booked.proofs.Laws.Computing.{computing}
 use Rattle.booked.proofs.OneList.{good-exactly}
@@ -70,6 +70,14 @@ beyond-none part =
 at-front : NoneAtTheFront stepAtFront → ⊥
 unfolding stepAtFront
 at-front part = sheet-is-not-none 0 0 (numbersIn []) (part [])
+
+stays-after : AfterAStep stays → ⊥
+unfolding stays
+stays-after part = omega (arith, part .at-its-start 0 18 (numbersIn daySheet) 18)
+
+to-front : AfterAStep toFront → ⊥
+unfolding toFront
+to-front part = omega (arith, part .where-it-was 18)
 
 -- it gives the sheet again and again
 no-end : {place : ℕ} {ss : List (List ℕ)} → GivesBack stepBack stays daySheet place ss → place ≡ 18 → ⊥
@@ -216,6 +224,8 @@ each-bites =
       beyond-gives = beyond-gives;
       beyond-none = beyond-none;
       at-front = at-front;
+      stays-after = stays-after;
+      to-front = to-front;
       stays-there = stays-there;
       oldest-content = oldest-content;
       oldest-entry = oldest-entry;

@@ -15,11 +15,11 @@ use Rattle.book.specs.declared.Back.{Back}
 use Rattle.book.specs.declared.Back.the-variants.{Sheet, None}
 use Rattle.book.specs.Sheets.{lastStart, lastSheet, sheetsOf}
 use Rattle.book.specs.Good.{numbersIn, everySheet, goodBook}
-use Rattle.book.specs.Stepping.{stepBack}
+use Rattle.book.specs.Stepping.{stepBack, placeAfter}
 use Rattle.book.specs.Lookup.{LastSet, blank, entry, entriesIn, entryOn, orOlder, newest, cellsOf, lookupRules, lookupOf}
 use Rattle.book.specs.Adding.{becomes, addedOf, roomOf}
 use Rattle.booked.specs.OneList.{GoodExactly, NoBytesAreGood, AnyFirstNumber, CountsThem}
-use Rattle.booked.specs.Stepping.{StepGives, StepNone, NoneAtTheFront, StepsThrough}
+use Rattle.booked.specs.Stepping.{StepGives, StepNone, NoneAtTheFront, AfterAStep, StepsThrough}
 use Rattle.booked.specs.Lookups.{LastSheetWith, LookupRefuses, NoBytesHave64Cells}
 use Rattle.booked.specs.Laid.{FoundIsLaid, NoEntryIsBlank}
 use Rattle.booked.specs.Adding.{Adding, adding02, AddedTo, AddedLookup, AddRefused, AddsIf, NoneAfterTheLast}
@@ -93,6 +93,10 @@ stepAtFront b place = cond (eqb place 0) (Sheet 0 0 (numbersIn [])) (stepBack b 
 -- after a sheet the reader stays where it was
 unfoldable pub stays : Back → ℕ → ℕ
 stays step place = place
+
+-- where none comes the reader goes to the front
+unfoldable pub toFront : Back → ℕ → ℕ
+toFront step place = placeAfter step 0
 
 -- ---- wrong lookups
 
@@ -207,6 +211,8 @@ pub record EachBites : Type 0 where
   pub beyond-gives : StepGives stepBeyond → ⊥
   pub beyond-none : StepNone stepBeyond → ⊥
   pub at-front : NoneAtTheFront stepAtFront → ⊥
+  pub stays-after : AfterAStep stays → ⊥
+  pub to-front : AfterAStep toFront → ⊥
   pub stays-there : StepsThrough stepBack stays → ⊥
   pub oldest-content : FoundIsLaid lookOldest → ⊥
   pub oldest-entry : LastSheetWith lookOldest → ⊥
