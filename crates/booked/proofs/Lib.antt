@@ -1,6 +1,7 @@
 pub mod Laws
 pub mod OneList
 pub mod Stepping
+pub mod Readers
 pub mod Inside
 pub mod Lookups
 pub mod Laid

@@ -17,11 +17,11 @@ use Rattle.book.specs.declared.Back.the-variants.{Sheet, None}
 use Rattle.book.specs.Sheets.{sheetsOf}
 use Rattle.book.specs.Good.{goodBook}
 use Rattle.book.specs.Counting.{countOf}
-use Rattle.book.specs.Stepping.{stepBack}
+use Rattle.book.specs.Stepping.{stepBack, placeAfter}
 use Rattle.book.specs.Lookup.{LastSet, blank, entry, newest, cellsOf, lookupOf}
 use Rattle.book.specs.Adding.{becomes, addedOf, roomOf}
 use Rattle.booked.specs.OneList.{GoodExactly, CountsThem}
-use Rattle.booked.specs.Stepping.{StepGives, StepNone}
+use Rattle.booked.specs.Stepping.{StepGives, StepNone, AfterAStep}
 use Rattle.booked.specs.Lookups.{LastSheetWith, LookupRefuses}
 use Rattle.booked.specs.Adding.{Adding, SheetAdded, AddedTo, AddRefused, AddsIf}
 use Rattle.booked.specs.Settled.{Settled}
@@ -58,6 +58,10 @@ step-is step gives gives-none b place = by-step (stepBack b place) refl
     by-step : (r : Back) → stepBack b place ≡ r → step b place ≡ stepBack b place
     by-step None e = gives-none b place .1 (step-none b place .0 e) ∙ sym e
     by-step (Sheet start end n) e = gives b place start end n .1 (step-gives b place start end n .0 e) ∙ sym e
+
+next-is : (next : Back → ℕ → ℕ) → AfterAStep next → (r : Back) (place : ℕ) → next r place ≡ placeAfter r place
+next-is next after (Sheet start end n) place = after .at-its-start start end n place
+next-is next after None place = after .where-it-was place
 
 -- ---- a lookup
 
@@ -122,6 +126,7 @@ settled =
       test = test-is;
       count = count-is;
       step = step-is;
+      next = next-is;
       look = λ look refuses last b cell. look-is look last b cell refuses;
       add = add-is;
       room = λ add if-so to keeps room len s. room-is add if-so room len s to keeps;

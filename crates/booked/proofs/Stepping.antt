@@ -1,8 +1,9 @@
 -- What specs/Stepping.antt states of a step, and of stepping back through a book.
+--   sheet-is-not-none              a step that gives a sheet does not give none
 --   step-gives : StepGives stepBack, step-none : StepNone stepBack
---   none-at-the-front : NoneAtTheFront stepBack
+--   none-at-the-front : NoneAtTheFront stepBack, after-a-step : AfterAStep placeAfter
 --   steps-through : StepsThrough stepBack placeAfter
---   steps-once : StepsOnce, of any step
+--   steps-once : StepsOnce
 -- Assumes nothing.
 use mathlib.Core.Path.{_≡_, refl, sym, ap, _∙_, subst}
 use mathlib.Core.Bool.{true}
@@ -22,11 +23,11 @@ use Rattle.book.specs.Good.{numbersIn, everySheet}
 use Rattle.book.specs.Stepping.{partOf, stepBack, placeAfter}
 use Rattle.book.proofs.Laws.Sheets.{start-behind}
 use Rattle.book.proofs.Laws.Stepping.{part-is, step-sheet, stepped}
-use Rattle.booked.specs.Stepping.{SheetEndsAt, StepGives, StepNone, NoneAtTheFront, GivesBack, none-comes, one-back, StepsThrough, StepsOnce}
+use Rattle.booked.specs.Stepping.{SheetEndsAt, StepGives, StepNone, NoneAtTheFront, AfterAStep, GivesBack, none-comes, one-back, StepsThrough, StepsOnce}
 
 -- ---- one step
 
-sheet-is-not-none : (start end : ℕ) (n : Numbers) → Sheet start end n ≡ None → ⊥
+pub sheet-is-not-none : (start end : ℕ) (n : Numbers) → Sheet start end n ≡ None → ⊥
 sheet-is-not-none start end n e = let z : _≡_ {A = ℕ} 0 1 = cc in omega arith
 
 module _ (b : List ℕ) (place start : ℕ) (ends : SheetEndsAt b place start) where
@@ -69,6 +70,9 @@ none-at-the-front b =
     step-none b 0 .1
     (λ start ends. omega (arith, good-is-long (partOf b start 0) (ends .is-good), length-take (0 - start) (drop start b)))
 
+pub after-a-step : AfterAStep placeAfter
+after-a-step = record { at-its-start = λ start end n place. refl; where-it-was = λ place. refl }
+
 -- ---- from a place on
 
 -- good sheets end to end, and then other bytes: from the end of those sheets
@@ -110,5 +114,5 @@ once {step} {next} {b} {place} (one-back {start = start} {end = end} {n = n} {ol
     let rest : older ≡ older′ = once s (subst (λ (x : Back). GivesBack step next b (next x place) older′) same t) in
     ap (λ (i : ℕ). partOf b i end ∷ older) starts ∙ ap (λ (i : ℕ). partOf b start′ i ∷ older) ends ∙ ap (λ (l : List (List ℕ)). partOf b start′ end′ ∷ l) rest
 
-pub steps-once : (step : List ℕ → ℕ → Back) (next : Back → ℕ → ℕ) → StepsOnce step next
+pub steps-once : StepsOnce
 steps-once step next b place ss ts = once

@@ -16,22 +16,26 @@ use Rattle.content.specs.declared.Content.{Content}
 use Rattle.content.specs.declared.Content.the-variants.{Open, Day}
 use Rattle.content.proofs.Laws.Content.{never-meet}
 use Rattle.layout.specs.Layout.{entryOf}
-use Rattle.runs.specs.Run.{Shelf, start, Run, RunOn, afterAll}
-use Rattle.desk.specs.Calls.{document01}
-use Rattle.book.specs.declared.Back.the-variants.{Sheet, None}
+use Rattle.cells.specs.Cells.{each, anywhere}
+use Rattle.sound.specs.Sound.{soundOf}
+use Rattle.pending.specs.Pending.{pendingBelow, sheetOf}
+use Rattle.runs.specs.Call.{Call, sends}
+use Rattle.runs.specs.Run.{Shelf, start, after, Run, RunOn, afterAll}
+use Rattle.desk.specs.Calls.{document01, openOf, sendOf}
 use Rattle.book.specs.Good.{numbersIn}
 use Rattle.book.specs.Stepping.{stepBack}
 use Rattle.book.specs.Lookup.{LastSet, blank, entry}
 use Rattle.booked.specs.OneList.{GoodExactly, NoBytesAreGood, AnyFirstNumber, CountsThem}
-use Rattle.booked.specs.Stepping.{StepGives, StepNone, StepsThrough, GivesBack, none-comes, one-back}
-use Rattle.booked.specs.Lookups.{here, LastSheetWith, LookupRefuses}
+use Rattle.booked.specs.Stepping.{StepGives, StepNone, NoneAtTheFront, AfterAStep, StepsThrough, GivesBack, none-comes, one-back}
+use Rattle.booked.specs.Lookups.{here, LastSheetWith, LookupRefuses, NoBytesHave64Cells}
 use Rattle.booked.specs.Laid.{FoundIsLaid, NoEntryIsBlank}
 use Rattle.booked.specs.Adding.{adding02, AddedTo, AddedLookup, AddRefused, AddsIf, NoneAfterTheLast}
-use Rattle.booked.specs.OfARun.{RunsBookIsGood, LastSent}
-use Rattle.booked.specs.WrongBooks.{daySheet, openSheet, empty1, empty2, emptyLast, empty0, sheetsAlone, someBytes, fromNumber0, countUntested, stepBeyond, stays, oldest, lookOldest, lookDay0, lookNewestNumber, lookUntested, look6First, laidFirst, laysFirst, zerosPast, clearsTheRest, roomFirst, testsRoomFirst, wrapped, wraps, EachBites}
+use Rattle.booked.specs.OfARun.{RunsBookIsGood, EachIsAdded, LastSent}
+use Rattle.booked.specs.WrongBooks.{daySheet, openSheet, empty1, empty2, emptyLast, empty0, sheetsAlone, someBytes, fromNumber0, countUntested, stepBeyond, stepAtFront, stays, toFront, oldest, lookOldest, lookDay0, lookNewestNumber, lookUntested, look6First, lookNoBytes, laidFirst, laysFirst, zerosPast, clearsTheRest, roomFirst, testsRoomFirst, oneByteMore, wantsOneByteMore, wrapped, wraps, EachBites}
 use Rattle.booked.proofs.Laws.Newest.{entry-is-not-blank}
 use Rattle.booked.proofs.Laws.Computing.{computing}
 use Rattle.booked.proofs.OneList.{good-exactly}
+use Rattle.booked.proofs.Stepping.{sheet-is-not-none}
 use Rattle.booked.proofs.Settled.{found-newest}
 
 -- ---- a test of a book
@@ -61,17 +65,24 @@ beyond-gives part = let ends = part daySheet 19 0 19 (numbersIn daySheet) .0 ref
 beyond-none : StepNone stepBeyond → ⊥
 unfolding computing stepBeyond
 beyond-none part =
-    let none : Sheet 0 19 (numbersIn daySheet) ≡ None = part daySheet 19 .1 (λ start ends. omega (arith, ends .in-book)) in
-    let z : _≡_ {A = ℕ} 0 1 = cc in
-    omega arith
+    sheet-is-not-none 0 19 (numbersIn daySheet) (part daySheet 19 .1 (λ start ends. omega (arith, ends .in-book)))
+
+at-front : NoneAtTheFront stepAtFront → ⊥
+unfolding stepAtFront
+at-front part = sheet-is-not-none 0 0 (numbersIn []) (part [])
+
+stays-after : AfterAStep stays → ⊥
+unfolding stays
+stays-after part = omega (arith, part .at-its-start 0 18 (numbersIn daySheet) 18)
+
+to-front : AfterAStep toFront → ⊥
+unfolding toFront
+to-front part = omega (arith, part .where-it-was 18)
 
 -- it gives the sheet again and again
 no-end : {place : ℕ} {ss : List (List ℕ)} → GivesBack stepBack stays daySheet place ss → place ≡ 18 → ⊥
 unfolding computing stays
-no-end {place} (none-comes e) at =
-    let none : Sheet 0 18 (numbersIn daySheet) ≡ None = ap (stepBack daySheet) (sym at) ∙ e in
-    let z : _≡_ {A = ℕ} 0 1 = cc in
-    omega arith
+no-end (none-comes e) at = sheet-is-not-none 0 18 (numbersIn daySheet) (ap (stepBack daySheet) (sym at) ∙ e)
 no-end (one-back e further) at = no-end further at
 
 stays-there : StepsThrough stepBack stays → ⊥
@@ -121,6 +132,14 @@ six-first part =
     let six : _≡_ {A = Answer LastSet} (refused 6) (refused 23) = part .exactly-23 (0 ∷ []) 64 .1 refl in
     let e : _≡_ {A = ℕ} 6 23 = cc in
     omega arith
+
+cells-63 : NoBytesHave64Cells (lookNoBytes 63) → ⊥
+unfolding lookNoBytes
+cells-63 part = refused-is-not-answered 6 blank (part .blank-below 63 (omega arith))
+
+cells-65 : NoBytesHave64Cells (lookNoBytes 65) → ⊥
+unfolding lookNoBytes
+cells-65 part = refused-is-not-answered 6 blank (sym (part .refused-above 64 (omega arith)))
 
 -- ---- adding
 
@@ -175,6 +194,18 @@ run-some-bytes : RunsBookIsGood someBytes → ⊥
 unfolding computing someBytes start afterAll
 run-some-bytes part = false≢true (part shelf [] no-calls .is-good)
 
+-- its one desk sends a sheet without entries
+one-send : List Call
+one-send = sends 0 (replicate 12 0) ∷ []
+
+sends-one : RunOn document01 shelf one-send
+unfolding Run shelf one-send
+sends-one = record { within = no-calls .within; run = (omega arith, tt) }
+
+run-one-byte-more : EachIsAdded wantsOneByteMore → ⊥
+unfolding computing oneByteMore start after afterAll openOf sendOf soundOf each anywhere sheetOf pendingBelow shelf one-send
+run-one-byte-more part = refused-is-not-answered 11 12 (part shelf one-send sends-one 0 (omega arith) (replicate 12 0) refl (omega arith) .answers)
+
 run-day0 : LastSent lookDay0 → ⊥
 unfolding computing lookDay0 start afterAll shelf
 run-day0 part =
@@ -192,6 +223,9 @@ each-bites =
       untested-count = untested-count;
       beyond-gives = beyond-gives;
       beyond-none = beyond-none;
+      at-front = at-front;
+      stays-after = stays-after;
+      to-front = to-front;
       stays-there = stays-there;
       oldest-content = oldest-content;
       oldest-entry = oldest-entry;
@@ -201,11 +235,14 @@ each-bites =
       newest-number = newest-number;
       untested = untested;
       six-first = six-first;
+      cells-63 = cells-63;
+      cells-65 = cells-65;
       oldest-added = oldest-added;
       lays-first = lays-first;
       clears-the-rest = clears-the-rest;
       room-first = room-first;
       wraps-around = wraps-around;
       run-some-bytes = run-some-bytes;
+      run-one-byte-more = run-one-byte-more;
       run-day0 = run-day0;
     }

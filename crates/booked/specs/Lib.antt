@@ -1,5 +1,6 @@
 pub mod OneList
 pub mod Stepping
+pub mod Readers
 pub mod Inside
 pub mod Laid
 pub mod Lookups

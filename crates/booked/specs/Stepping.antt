@@ -40,6 +40,13 @@ StepNone step = (b : List ℕ) (place : ℕ) → (step b place ≡ None) ↔ ((s
 abbrev pub NoneAtTheFront : (List ℕ → ℕ → Back) → Type 0
 NoneAtTheFront step = (b : List ℕ) → step b 0 ≡ None
 
+-- where a reader stands after a step. "the trailer gives the last sheet's start, and the sheet
+-- before ends there": at the start of the sheet that it gave. "keeps .. the place it has got to":
+-- where none comes it has got no further
+pub record AfterAStep (next : Back → ℕ → ℕ) : Type 0 where
+  pub at-its-start : (start end : ℕ) (n : Numbers) (place : ℕ) → next (Sheet start end n) place ≡ start
+  pub where-it-was : (place : ℕ) → next None place ≡ place
+
 -- ---- from a place on
 
 -- a reader at this place that steps back until none comes is given these parts of the book. `next`
@@ -57,7 +64,8 @@ abbrev pub StepsThrough : (List ℕ → ℕ → Back) → (Back → ℕ → ℕ)
 StepsThrough step next =
     (ss : List (List ℕ)) → everySheet good ss ≡ true → GivesBack step next (endToEnd ss) (length (endToEnd ss)) ss
 
--- and no other list, from any place
-abbrev pub StepsOnce : (List ℕ → ℕ → Back) → (Back → ℕ → ℕ) → Type 0
-StepsOnce step next =
-    (b : List ℕ) (place : ℕ) (ss ts : List (List ℕ)) → GivesBack step next b place ss → GivesBack step next b place ts → ss ≡ ts
+-- and no other list, from any place: that is so whatever a step gives, and says nothing of a call
+abbrev pub StepsOnce : Type 0
+StepsOnce =
+    (step : List ℕ → ℕ → Back) (next : Back → ℕ → ℕ) (b : List ℕ) (place : ℕ) (ss ts : List (List ℕ))
+    → GivesBack step next b place ss → GivesBack step next b place ts → ss ≡ ts

@@ -5,7 +5,7 @@
 use mathlib.Core.Bool.{Bool, true, false, not, cond, _&&_, _||_}
 use mathlib.Core.List.{List, [], _∷_, _++_}
 use Prim.Native.Nat.{ℕ, _+_, _-_}
-use lib.Dec.{eqb, ltb}
+use lib.Dec.{eqb, leb, ltb}
 use lib.IntN.{pos}
 use lib.ListN.{length, take, drop, replicate}
 use Rattle.answer.specs.Answer.{Answer, refused, answered, accepted, _if_, answer}
@@ -15,15 +15,15 @@ use Rattle.book.specs.declared.Back.{Back}
 use Rattle.book.specs.declared.Back.the-variants.{Sheet, None}
 use Rattle.book.specs.Sheets.{lastStart, lastSheet, sheetsOf}
 use Rattle.book.specs.Good.{numbersIn, everySheet, goodBook}
-use Rattle.book.specs.Stepping.{stepBack}
+use Rattle.book.specs.Stepping.{stepBack, placeAfter}
 use Rattle.book.specs.Lookup.{LastSet, blank, entry, entriesIn, entryOn, orOlder, newest, cellsOf, lookupRules, lookupOf}
 use Rattle.book.specs.Adding.{becomes, addedOf, roomOf}
 use Rattle.booked.specs.OneList.{GoodExactly, NoBytesAreGood, AnyFirstNumber, CountsThem}
-use Rattle.booked.specs.Stepping.{StepGives, StepNone, StepsThrough}
-use Rattle.booked.specs.Lookups.{LastSheetWith, LookupRefuses}
+use Rattle.booked.specs.Stepping.{StepGives, StepNone, NoneAtTheFront, AfterAStep, StepsThrough}
+use Rattle.booked.specs.Lookups.{LastSheetWith, LookupRefuses, NoBytesHave64Cells}
 use Rattle.booked.specs.Laid.{FoundIsLaid, NoEntryIsBlank}
 use Rattle.booked.specs.Adding.{Adding, adding02, AddedTo, AddedLookup, AddRefused, AddsIf, NoneAfterTheLast}
-use Rattle.booked.specs.OfARun.{RunsBookIsGood, LastSent}
+use Rattle.booked.specs.OfARun.{RunsBookIsGood, EachIsAdded, LastSent}
 
 -- ---- small sheets, of two desks and two cells
 
@@ -86,9 +86,17 @@ stepBeyond b place =
     let up-to = take place b in
     cond (good (lastSheet up-to)) (Sheet (lastStart up-to) place (numbersIn (lastSheet up-to))) None
 
+-- at the front it gives a part of no bytes
+unfoldable pub stepAtFront : List ℕ → ℕ → Back
+stepAtFront b place = cond (eqb place 0) (Sheet 0 0 (numbersIn [])) (stepBack b place)
+
 -- after a sheet the reader stays where it was
 unfoldable pub stays : Back → ℕ → ℕ
 stays step place = place
+
+-- where none comes the reader goes to the front
+unfoldable pub toFront : Back → ℕ → ℕ
+toFront step place = placeAfter step 0
 
 -- ---- wrong lookups
 
@@ -134,6 +142,11 @@ lookUntested b cell = answer (6 if not (ltb cell (cellsOf (sheetsOf b))) ∷ [])
 unfoldable pub look6First : List ℕ → ℕ → Answer LastSet
 look6First b cell = answer (6 if not (ltb cell (cellsOf (sheetsOf b))) ∷ 23 if not (goodBook b) ∷ []) (newest cell (sheetsOf b))
 
+-- a book of no bytes has this many cells
+unfoldable pub lookNoBytes : (cells : ℕ) → List ℕ → ℕ → Answer LastSet
+lookNoBytes cells [] cell = answer (6 if not (ltb cell cells) ∷ []) blank
+lookNoBytes cells (byte ∷ b) cell = lookupOf (byte ∷ b) cell
+
 -- ---- wrong ways of adding
 
 -- the sheet is laid down before the tests
@@ -161,6 +174,16 @@ roomFirst room len s =
 abbrev pub testsRoomFirst : Adding
 testsRoomFirst = record { answers = roomFirst; leaves = roomOf }
 
+-- 11 where the sheet just fits, too
+unfoldable pub oneByteMore : List ℕ → ℕ → List ℕ → Answer ℕ
+oneByteMore room len s =
+    answer
+    (13 if not (good s) ∷ 23 if (ltb (length room) len || not (goodBook (becomes room len s))) ∷ 11 if leb (length room - len) (length s) ∷ [])
+    (len + length s)
+
+abbrev pub wantsOneByteMore : Adding
+wantsOneByteMore = record { answers = oneByteMore; leaves = roomOf }
+
 -- after the last number comes 0
 abbrev pub lastThen0 : List (List ℕ) → List ℕ → Bool
 lastThen0 [] s = false
@@ -187,6 +210,9 @@ pub record EachBites : Type 0 where
   pub untested-count : CountsThem countUntested → ⊥
   pub beyond-gives : StepGives stepBeyond → ⊥
   pub beyond-none : StepNone stepBeyond → ⊥
+  pub at-front : NoneAtTheFront stepAtFront → ⊥
+  pub stays-after : AfterAStep stays → ⊥
+  pub to-front : AfterAStep toFront → ⊥
   pub stays-there : StepsThrough stepBack stays → ⊥
   pub oldest-content : FoundIsLaid lookOldest → ⊥
   pub oldest-entry : LastSheetWith lookOldest → ⊥
@@ -196,10 +222,13 @@ pub record EachBites : Type 0 where
   pub newest-number : LastSheetWith lookNewestNumber → ⊥
   pub untested : LookupRefuses lookUntested → ⊥
   pub six-first : LookupRefuses look6First → ⊥
+  pub cells-63 : NoBytesHave64Cells (lookNoBytes 63) → ⊥
+  pub cells-65 : NoBytesHave64Cells (lookNoBytes 65) → ⊥
   pub oldest-added : AddedLookup adding02 lookOldest → ⊥
   pub lays-first : AddRefused laysFirst → ⊥
   pub clears-the-rest : AddedTo clearsTheRest → ⊥
   pub room-first : AddsIf testsRoomFirst → ⊥
   pub wraps-around : NoneAfterTheLast wraps → ⊥
   pub run-some-bytes : RunsBookIsGood someBytes → ⊥
+  pub run-one-byte-more : EachIsAdded wantsOneByteMore → ⊥
   pub run-day0 : LastSent lookDay0 → ⊥
