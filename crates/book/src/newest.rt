@@ -60,9 +60,9 @@ fn entry_on(s: &[u8], count: u8, cell: u8) -> Hit
 {
     let mut k: u8 = 0;
     while k < count {
-        let e = sheet::entry_at(s, k);
-        if e.cell == cell {
-            return Hit::Entry(e);
+        let at = 6 * (k as usize);
+        if s[at] == cell {
+            return Hit::Entry(sheet::entry_at(s, k));
         }
         k += 1;
     }

@@ -11,7 +11,7 @@ use native.Mathlib.Omega.{arith}
 use native.Mathlib.Numerals.{add-one}
 use lib.Dec.{eqb}
 use lib.ListN.{length, getD, take, drop, drop-of-length-le}
-use lib.Seq.{drop-cons, take-length, length-take-le}
+use lib.Seq.{drop-cons, take-length, length-take-le, getD-drop}
 use borrow.Author.Tests.{eq-eqb, ne-eqb, le-leb, eqb-true, eqb-false}
 use Rattle.content.specs.declared.Content.{Content}
 use Rattle.layout.specs.declared.Entry.{Entry}
@@ -55,26 +55,34 @@ module _ (s : List ℕ) (count cell : ℕ) where
     unfolding entryOn
     hit-none h = rw (so .passed, drop-of-length-le es {i = k} (omega (arith, entries-count count s)))
 
-    module _ (h : k < count) (e : Entry) (is : e ≡ entryAt s k) where
-      stands : drop k es ≡ e ∷ drop (k + 1) es
+    module _ (h : k < count) where
+      stands : drop k es ≡ entryAt s k ∷ drop (k + 1) es
       stands =
           let at : entryAt s k ≡ entryOf (drop (6 * k) s) = rw (le-leb (6 * k + 18) (length s) (omega (arith, so .room))) in
-          let same : getD es k noEntry ≡ e = entry-of-entries count k s noEntry h ∙ sym at ∙ sym is in
+          let same : getD es k noEntry ≡ entryAt s k = entry-of-entries count k s noEntry h ∙ sym at in
           drop-cons es k noEntry (omega (arith, entries-count count s))
           ∙ ap (λ (x : Entry). x ∷ drop (suc k) es) same
-          ∙ ap (λ (i : ℕ). e ∷ drop i es) (sym (add-one k))
+          ∙ ap (λ (i : ℕ). entryAt s k ∷ drop i es) (sym (add-one k))
 
-      pub hit-found : e .cell ≡ cell → hit.Entry e ≡ hitOf (entryOn cell es)
+      -- an entry's cell is its first byte
+      its-cell : entryAt s k .cell ≡ getD s (6 * k) 0
+      its-cell =
+          let at : entryAt s k ≡ entryOf (drop (6 * k) s) = rw (le-leb (6 * k + 18) (length s) (omega (arith, so .room))) in
+          let first : 6 * k + 0 ≡ 6 * k = omega arith in
+          ap (λ (e : Entry). e .cell) at ∙ getD-drop (6 * k) s 0 0 ∙ ap (λ (i : ℕ). getD s i 0) first
+
+      pub hit-found : getD s (6 * k) 0 ≡ cell → (e : Entry) → e ≡ entryAt s k → hit.Entry e ≡ hitOf (entryOn cell es)
       unfolding entryOn
-      hit-found c = rw (so .passed, stands, eq-eqb (e .cell) cell c)
+      hit-found c e entry-is =
+          ap hit.Entry entry-is ∙ sym (rw (so .passed, stands, eq-eqb (entryAt s k .cell) cell (its-cell ∙ c)))
 
-      pub hit-turned : (e .cell ≡ cell → ⊥) → HitSoFar s count cell (k + 1)
+      pub hit-turned : (getD s (6 * k) 0 ≡ cell → ⊥) → HitSoFar s count cell (k + 1)
       unfolding entryOn
       hit-turned c =
           record {
             room = so .room;
             within = omega arith;
-            passed = so .passed ∙ ap (entryOn cell) stands ∙ rw (ne-eqb (e .cell) cell c);
+            passed = so .passed ∙ ap (entryOn cell) stands ∙ rw (ne-eqb (entryAt s k .cell) cell (λ e. c (sym its-cell ∙ e)));
           }
 
 pub ruleset hits = (hit-begun, hit-none, hit-found, hit-turned)

@@ -1,7 +1,9 @@
 -- `entry_on` meets its contract: what was passed over is another cell's (`HitSoFar`).
 -- Assumes nothing.
 use borrow.Author.Needs.{needs}
+use mathlib.Core.Path.{refl}
 use Prim.Native.Nat.{_-_}
+use native.Mathlib.Omega.{arith}
 use Rattle.book.proofs.Laws.Lookup.{HitSoFar, hits}
 use Rattle.book.proofs.newest.entry_on.Statement.{statement}
 use Rattle.book.proofs.newest.entry_on.Tie as tie
@@ -14,6 +16,15 @@ abbrev μ-loop : tie.MeasureT-loop
 
 loop-holds : tie.Need-loop-holds Inv-loop μ-loop
 loop-holds c = search (hits, needs)
+
+cast-at : tie.Need-cast-at Inv-loop μ-loop
+cast-at c = search (hits, needs)
+
+mul-at : tie.Need-mul-at Inv-loop μ-loop
+mul-at c = search (hits, needs)
+
+shared-slice-read-if1 : tie.Need-shared-slice-read-if1 Inv-loop μ-loop
+shared-slice-read-if1 c = search (hits, needs)
 
 entry-at-requires : tie.Need-entry-at-requires Inv-loop μ-loop
 entry-at-requires c κs = search (hits, needs)
@@ -40,6 +51,9 @@ entry-on-spec =
     Inv-loop
     μ-loop
     loop-holds
+    cast-at
+    mul-at
+    shared-slice-read-if1
     entry-at-requires
     returns
     add-k
