@@ -2,6 +2,8 @@
 
 Each definition below gives all that calls of one letter can show, and whether this one shows it.
 """
+import functools
+
 import books
 import sheets
 
@@ -10,16 +12,6 @@ REFUSED_23 = ['refused 23']
 BITS_16 = 65_535  # the most that 16 bits can count
 FAR = 20, 255  # sheets behind the one that counts: more than so many
 LEFT = {'0xAA': lambda byte: byte == 0xAA, 'neither 0xAA nor 0': lambda byte: byte not in (0, 0xAA)}
-
-
-def of_sheets(call, said):
-    """`s`"""
-    return {
-        'refused 23': said[0] == 'refused 23',
-        'no sheet': said == ['end'],
-        'one sheet': len(said) == 2 and said[0] != 'refused 23',
-        'more than one sheet': len(said) > 2,
-    }
 
 
 def good_behind(book):
@@ -32,12 +24,30 @@ def good_behind(book):
     return count
 
 
+@functools.lru_cache(maxsize=64)  # as one book is asked about more than once
 def behind_wrong(book):
     """How many sheets stand behind the last that is not good or does not fit the next."""
     row = [one.sheet for one in books.parts(book) or []]
     fits = [(a.desks, a.cells, a.turn + 1) == (b.desks, b.cells, b.turn)
             for a, b in zip(row, row[1:])]
     return fits[::-1].index(False) + 1 if False in fits else good_behind(book)
+
+
+def refused_far(refused, book):
+    """Refused by 23 for a book that is wrong in its front alone."""
+    behind = behind_wrong(book) if refused else 0
+    return {f'refused 23, more than {most} sheets behind': behind > most for most in FAR}
+
+
+def of_sheets(call, said):
+    """`s`"""
+    return {
+        'refused 23': said[0] == 'refused 23',
+        'no sheet': said == ['end'],
+        'one sheet': len(said) == 2 and said[0] != 'refused 23',
+        'more than one sheet': len(said) > 2,
+        **refused_far(said == [*REFUSED_23, 'end'], call.book),
+    }
 
 
 def of_wrong_book(book):
@@ -104,6 +114,7 @@ def of_lookup(call, said):
     return {
         'refused 23': said == REFUSED_23,
         'refused 23, and no shelf has the cell': said == REFUSED_23 and call.number >= 64,
+        **refused_far(said == REFUSED_23, call.book),
         'refused 6': said == ['refused 6'] and call.book != b'',
         'refused 6, a cell below 64': said == ['refused 6'] and call.number < 64,
         'refused 6, no sheet': said == ['refused 6'] and call.book == b'',
@@ -163,6 +174,8 @@ def of_adding(call, said):
     return {
         'added to no bytes': added and length == 0,
         'added to some bytes': added and length > 0,
+        **{f'added, more than {most} sheets before it': added and length > 12 * most
+           and len(books.sheets_of(before)) > most for most in FAR},
         'added, no byte left': added and length + size == room,
         'added, bytes left': added and length + size < room,
         **{f'added, {most} bytes left, the last {what}': len(left) == most and is_so(left[-1])
@@ -173,6 +186,7 @@ def of_adding(call, said):
         'refused 23, length beyond the room': refused_23 and beyond,
         'refused 23, length near 64 bits': refused_23 and length > 2**64 - 400,
         'refused 23, book not good': refused_23 and not beyond and not fits,
+        **refused_far(refused_23 and not beyond, before + call.sheet),
         'refused 23, only desks differ': fits and follows and sheet.cells == last.cells,
         'refused 23, only cells differ': fits and follows and sheet.desks == last.desks,
         'refused 23, only the number': fits and not follows
