@@ -1,8 +1,8 @@
 """Calls to try on a program for round books: on good books of any shape, damaged ones and noise.
 
-`calls(seed)` are such calls without end, ten on each book, the same ones for the same seed. A book
-is made as pieces that stand end to end: sheets, or what is left of them. Nothing here knows what
-must be said of a book.
+`calls(seed)` are such calls without end, ten on each book and more on a long one, the same ones for
+the same seed. A book is made as pieces that stand end to end: sheets, or what is left of them.
+Nothing here knows what must be said of a book.
 """
 
 import itertools
@@ -15,7 +15,10 @@ from somesheets import DAMAGE, LAST_TURN, noise, other_byte, some_day, some_entr
 
 BITS_32, BITS_64 = 2**32, 2**64
 BEYOND_16_BITS = 65_536
-ROUNDS_PER_LONG = 15  # long books are dear: one in so many rounds
+MOST_IN_ROW = 12  # sheets of a book that is not long
+FRONT = 4  # the sheets of a deep book that are unlike those behind them
+# Long books are dear: one of tens of sheets, of hundreds and of many bytes in so many rounds.
+PER_TENS, PER_HUNDREDS, PER_WIDE = 2, 10, 20
 
 
 # Good books.
@@ -37,8 +40,8 @@ def sheet_at(rng, desks, cells, turn):
 def row(rng, least=0):
     """Up to 12 sheets of one shelf in turn order, from any first number on or up to the last."""
     desks, cells = some_desks(rng), some_cells(rng)
-    more = [0, 1, 2, rng.randint(0, 12 - least), rng.randint(0, 12 - least)]
-    count = least + rng.choice(more)
+    left = MOST_IN_ROW - least
+    count = least + rng.choice([0, 1, 2, rng.randint(0, left), rng.randint(0, left)])
     most = LAST_TURN - count
     first = rng.choice([0, 1, most, rng.randint(0, 40), rng.randint(0, most), 256 - count // 2])
     return [sheet_at(rng, desks, cells, first + k) for k in range(count)]
@@ -215,31 +218,76 @@ def split(rng, pieces, at, places):
 # Long books.
 
 
-def long(rng):
-    """More bytes than 16 bits can count, most sheets long; sometimes wrong far in the front."""
+def deep_row(rng, count):
+    """So many sheets, of which each of the first ones sets a cell that no other one sets."""
+    desks, cells = some_desks(rng), rng.randint(2 * FRONT, 63)
+    first = rng.choice([1, rng.randint(1, BITS_32 // 2), LAST_TURN - 1 - count])
+    *own, other = [[Entry(cell, some_day(rng))] for cell in rng.sample(range(cells), FRONT + 1)]
+    entries = own + rng.choices([[], [], other], k=count - FRONT)
+    turns = range(first, first + count)
+    return [Sheet(turn % desks, desks, cells, turn, some) for turn, some in zip(turns, entries)]
+
+
+def changed(sheet, desks=0, cells=0, number=0):
+    """The sheet with other desks, cells or number, and with the sender that they leave."""
+    desks, turn = (sheet.desks - 1 + desks) % 16 + 1, sheet.turn + number
+    return Sheet(turn % desks, desks, sheet.cells + cells, turn, sheet.entries)
+
+
+FRONT_FAULTS = [{}, {"desks": 1}, {"cells": 1}, {"number": -1}, {"number": 1}]
+
+
+def deep(rng, nth, count):
+    """So many sheets; in their turn such whose first ones do not fit, or with a first one cut."""
+    sent, wrong = deep_row(rng, count), rng.randint(1, FRONT)
+    fault = [*FRONT_FAULTS, None][nth % (len(FRONT_FAULTS) + 1)]
+    if fault is None:
+        pieces = written(sent)
+        return [pieces[0][1:]] + pieces[1:]
+    return written([changed(sheet, **fault) for sheet in sent[:wrong]] + sent[wrong:])
+
+
+def wide(rng, nth):
+    """Well more bytes than 16 bits can count, most sheets long; every other one wrong in front."""
     desks, first = some_desks(rng), rng.randint(0, BITS_32 // 2)
     full = [Entry(cell, some_day(rng)) for cell in range(64)]
-    pieces, size = [], 0
-    while size <= BEYOND_16_BITS:
+    pieces, size, most = [], 0, BEYOND_16_BITS + rng.randint(8_000, 20_000)
+    while size <= most:
         turn = first + len(pieces)
-        entries = rng.choice([full, full[::2], full[1::3], []])
+        entries = rng.choice([full, full, full, full[1::3], []])
         pieces.append(sheets.write(Sheet(turn % desks, desks, 64, turn, entries)))
         size += len(pieces[-1])
     wrong = rng.choice([pieces[:1] + pieces[2:], [pieces[0][1:]] + pieces[1:]])
-    return rng.choice([pieces, pieces, wrong])
+    return [pieces, wrong][nth % 2]
+
+
+def long_books(rng, turn):
+    """Those of a round."""
+    if turn % PER_TENS == 0:
+        yield deep(rng, turn // PER_TENS, rng.choice([20, 40, rng.randint(14, 60)]))
+    if turn % PER_HUNDREDS == 0:
+        yield deep(rng, turn // PER_HUNDREDS, 300)
+    if turn % PER_WIDE == 0:
+        yield wide(rng, turn // PER_WIDE)
 
 
 # Calls.
 
 WRONG = ["shelf", "damage", "any", "none", "cut", "byte"]
+SPARE = [41, 100, 400]  # bytes of a room behind an added sheet, if there are many
+
+
+def right_next(rng, last):
+    """A sheet that fits behind this piece, or any if the piece is no good sheet."""
+    before = sheets.read(last)
+    if before:
+        return sheet_at(rng, before.desks, before.cells, before.turn + 1)
+    return some_sheet(rng)
 
 
 def some_next(rng, last):
     """A sheet to be added behind this piece: the right one in one half, else a wrong one."""
-    before = sheets.read(last)
-    sheet = some_sheet(rng)
-    if before:
-        sheet = sheet_at(rng, before.desks, before.cells, before.turn + 1)
+    sheet = right_next(rng, last)
     wrong = rng.choice([None] * 8 + ["number", "number", *WRONG])
     if wrong == "number":
         turn = (sheet.turn + rng.choice([-2, -1, 1, 2, sheet.desks])) % BITS_32
@@ -259,14 +307,20 @@ def some_next(rng, last):
     return b"" if wrong == "none" else data
 
 
+def some_left(rng, size):
+    """So many bytes of a room, as they may be before anything is added."""
+    return rng.choice([b"\xaa" * size, rng.randbytes(size), bytes(size)])
+
+
 def some_add(rng, pieces):
     """The book, or its first pieces, in a room that is long enough, or not, and a sheet for it."""
     upto = rng.choice([len(pieces), len(pieces), len(pieces), rng.randint(0, len(pieces))])
     sheet = some_next(rng, pieces[upto - 1] if upto else b"")
     length = sum(map(len, pieces[:upto]))
     need = length + len(sheet)
-    sizes = [need, need, need + rng.randint(1, 40), max(0, need - 1), length, rng.randint(0, need)]
-    room = b"".join(pieces) + rng.choice([b"\xaa", b"\xaa", b"\0"]) * (len(sheet) + 40)
+    spare = rng.choice([*SPARE, rng.randint(1, 40), rng.randint(1, 40)])
+    sizes = [need, need, need + spare, max(0, need - 1), length, rng.randint(0, need)]
+    room = b"".join(pieces) + some_left(rng, len(sheet) + spare)
     room = room[: rng.choice(sizes)]
     if rng.random() < 0.15:
         over = [len(room) + 1, BITS_32 + length, BITS_64 - 1, BITS_64 - rng.randint(1, 400)]
@@ -289,6 +343,29 @@ def cells_about(rng, cells):
     return [cell % 256 for cell in some]
 
 
+def far_cells(pieces):
+    """The first bytes of a long book's first pieces: cells, where these have entries."""
+    return [piece[0] for piece in pieces[:FRONT]] if len(pieces) > MOST_IN_ROW else []
+
+
+def far_places(rng, pieces):
+    """Places that 16 bits cannot count: where pieces end, near by, and anywhere."""
+    ends = [end for end in itertools.accumulate(map(len, pieces)) if end >= BEYOND_16_BITS]
+    if not ends:
+        return []
+    some = rng.sample(ends, min(4, len(ends)))
+    near = [some[0] - 1, some[0] + 1, some[0] - 6]
+    return [*some, *near, BEYOND_16_BITS, rng.randint(BEYOND_16_BITS, ends[-1])]
+
+
+def far_adds(rng, pieces):
+    """To a long book as it is, the sheet that fits, in a room with bytes to spare."""
+    if len(pieces) > MOST_IN_ROW:
+        book, sheet = b"".join(pieces), sheets.write(right_next(rng, pieces[-1]))
+        room = book + some_left(rng, len(sheet) + rng.choice(SPARE))
+        yield Call("a", room, len(book), sheet)
+
+
 def calls_on(rng, pieces):
     """Its sheets, how many, some cells, some places, and some sheets to be added."""
     book = b"".join(pieces)
@@ -296,9 +373,12 @@ def calls_on(rng, pieces):
     cells = book[-7] if len(book) >= 12 else 64
     yield Call("s", book)
     yield Call("c", book)
-    yield from (Call("l", book, cell) for cell in cells_about(rng, cells))
-    yield from (Call("b", book, place) for place in places(rng, pieces))
+    looked = cells_about(rng, cells) + far_cells(pieces)
+    yield from (Call("l", book, cell) for cell in looked)
+    stepped = places(rng, pieces) + far_places(rng, pieces)
+    yield from (Call("b", book, place) for place in stepped)
     yield from (some_add(rng, pieces) for _ in range(2))
+    yield from far_adds(rng, pieces)
 
 
 KINDS = [good] * 6 + [byte_changed, damaged, cut_behind, cut_before, zeros_behind, noisy]
@@ -310,5 +390,6 @@ def calls(seed):
     """Calls without end, in rounds of a book or more of each kind: the same for the same seed."""
     rng = random.Random(seed)
     for turn in itertools.count():
-        for made in KINDS + [long] * (turn % ROUNDS_PER_LONG == 0):
-            yield from calls_on(rng, made(rng))
+        short = (made(rng) for made in KINDS)
+        for pieces in itertools.chain(short, long_books(rng, turn)):
+            yield from calls_on(rng, pieces)

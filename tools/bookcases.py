@@ -1,16 +1,10 @@
-"""Calls of ./register book for tools/try-register: the files, calls that only look, and calls that add.
+"""Calls of ./register book for tools/try-register: the files, and calls that look and that add.
 
 The sheets are those of two desks and two cells: document 01's example 1, and empty ones.
 """
-E1 = bytes.fromhex('010200000000060001000202000000000000')
+from knownbooks import E1, OPENS, empty
+
 ANSWER, REFUSAL, NEITHER = 0, 1, 2
-
-
-def empty(turn):
-    """The empty sheet with this turn number."""
-    return bytes([0, 0, 0, turn % 2, 2, 2, 0, 0]) + turn.to_bytes(4, 'little')
-
-
 MOST = 524_288  # bytes of a book in a file
 FULL = b''.join(empty(turn) for turn in range(MOST // 12))
 OWN = {
@@ -18,7 +12,7 @@ OWN = {
     'one': E1,
     'two sheets': E1 + empty(1),
     'skipped': E1 + empty(2),
-    'opens': bytes.fromhex('000100000000010100000000020100000000120003000203000000000000'),
+    'opens': OPENS,
     'sheet 1': empty(1),
     'sheet 2': empty(2),
     'cut sheet': empty(1)[:-1],
@@ -46,6 +40,9 @@ LOOKING = [
     (['lookup', 'two sheets', '0'], ANSWER, b'blank\n', []),
     (['lookup', 'opens', '2'], ANSWER, b'open 0\n', []),
     (['lookup', 'two sheets', '2'], REFUSAL, b'refused 6\n', ['refused 6: ']),
+    # Beyond what one byte can count, and what 32 bits can.
+    (['lookup', 'two sheets', '256'], REFUSAL, b'refused 6\n', ['refused 6: ']),
+    (['lookup', 'two sheets', '257'], REFUSAL, b'refused 6\n', ['refused 6: ']),
     (['lookup', 'two sheets', '4294967296'], REFUSAL, b'refused 6\n', ['refused 6: ']),
     (['lookup', 'skipped', '99'], REFUSAL, b'refused 23\n', ['refused 23: ', 'book back']),
     (['back', 'two sheets', '30'], ANSWER, b'18 30\n', []),

@@ -3,7 +3,7 @@ import sheets
 from books import Call
 from sheets import Entry, Sheet
 
-INPUT = 524_288  # the most that the program reads
+INPUT = 524_685  # bytes: the most that the program reads
 GREATEST = sheets.MOST_TURN
 
 # Document 01's example 1; and three opens, whose bytes 2 to 14 are a sheet of another shelf.
