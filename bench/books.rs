@@ -2,9 +2,9 @@
 //! proved one.
 //!
 //! A book is a slice of exactly its bytes, and no byte of it is copied. It is read from its end:
-//! the trailer there says where the last sheet starts, and the sheet before ends there. Every step
-//! back tests the sheet that it gives. The sentences in quotes are document 02's, K1, and document
-//! 01's.
+//! the trailer there says where the last sheet starts, and the sheet before ends there. A book is
+//! tested once; a lookup then goes back without testing a sheet again. The sentences in quotes are
+//! document 02's, K1, and document 01's.
 
 use std::io::{self, BufWriter, Read, Write};
 
@@ -66,6 +66,24 @@ impl<'a> Sheet<'a> {
             turn,
         };
         good.then_some((before, sheet))
+    }
+
+    /// The same of bytes that were tested: nothing is tested again.
+    fn split_known(bytes: &'a [u8]) -> Option<(&'a [u8], Sheet<'a>)> {
+        let (before, trailer) = bytes.split_last_chunk::<TRAILER>()?;
+        let &[_, _, count, sender, desks, cells, _, _, t0, t1, t2, t3] = trailer;
+        let start = before.len().checked_sub(ENTRY * usize::from(count))?;
+        let (before, body) = before.split_at(start);
+        let (entries, _) = body.as_chunks::<ENTRY>();
+        let turn = u32::from_le_bytes([t0, t1, t2, t3]);
+        let sheet = Sheet {
+            entries,
+            sender,
+            desks,
+            cells,
+            turn,
+        };
+        Some((before, sheet))
     }
 
     fn content(&self, cell: u8) -> Option<Content> {
@@ -152,8 +170,14 @@ fn lookup(book: &[u8], cell: u8) -> Answer<Option<(Content, u32)>> {
     if cell >= cells {
         return Err(6);
     }
-    let mut reader = Reader { before: book };
-    Ok(reader.find_map(|sheet| Some((sheet.content(cell)?, sheet.turn))))
+    let mut before = book;
+    while let Some((older, sheet)) = Sheet::split_known(before) {
+        if let Some(content) = sheet.content(cell) {
+            return Ok(Some((content, sheet.turn)));
+        }
+        before = older;
+    }
+    Ok(None)
 }
 
 /// The book's new length. Refusals: "13, then 23 for the book as it would become or a length

@@ -65,7 +65,7 @@ LOOKING = [
     (['back', 'one', 'end'], NEITHER, b'', ["'end' is none"]),
     (['add', 'one', 'sheet 1'], NEITHER, b'', [f'{USE} add BOOK SHEET ROOM']),
     (['add', 'one', 'sheet 1', 'much'], NEITHER, b'', ["'much' is none"]),
-    (['add', 'none', 'sheet 1', '99'], NEITHER, b'', ["no book 'none'", ": > 'none'"]),
+    (['add', 'none', 'sheet 1', '99'], NEITHER, b'', ["no book 'none'", ': > none']),
     (['add', 'one', 'none', '99'], NEITHER, b'', ["no file 'none'"]),
     (['add', '.', 'sheet 1', '99'], NEITHER, b'', ["'.' is a folder"]),
     (['add', '/dev/null', 'sheet 1', '99'], NEITHER, b'', ['no plain file']),
