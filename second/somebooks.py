@@ -18,7 +18,7 @@ BEYOND_16_BITS = 65_536
 MOST_IN_ROW = 12  # sheets of a book that is not long
 FRONT = 4  # the sheets of a deep book that are unlike those behind them
 # Long books are dear: one of tens of sheets, of hundreds and of many bytes in so many rounds.
-PER_TENS, PER_HUNDREDS, PER_WIDE = 2, 10, 20
+PER_TENS, PER_HUNDREDS, PER_WIDE = 2, 11, 30
 
 
 # Good books.
@@ -251,7 +251,7 @@ def wide(rng, nth):
     """Well more bytes than 16 bits can count, most sheets long; every other one wrong in front."""
     desks, first = some_desks(rng), rng.randint(0, BITS_32 // 2)
     full = [Entry(cell, some_day(rng)) for cell in range(64)]
-    pieces, size, most = [], 0, BEYOND_16_BITS + rng.randint(8_000, 20_000)
+    pieces, size, most = [], 0, BEYOND_16_BITS + rng.randint(6_000, 14_000)
     while size <= most:
         turn = first + len(pieces)
         entries = rng.choice([full, full, full, full[1::3], []])
@@ -358,12 +358,11 @@ def far_places(rng, pieces):
     return [*some, *near, BEYOND_16_BITS, rng.randint(BEYOND_16_BITS, ends[-1])]
 
 
-def far_adds(rng, pieces):
-    """To a long book as it is, the sheet that fits, in a room with bytes to spare."""
-    if len(pieces) > MOST_IN_ROW:
-        book, sheet = b"".join(pieces), sheets.write(right_next(rng, pieces[-1]))
-        room = book + some_left(rng, len(sheet) + rng.choice(SPARE))
-        yield Call("a", room, len(book), sheet)
+def right_add(rng, pieces):
+    """The sheet that fits behind all pieces, in a room with bytes to spare."""
+    book, sheet = b"".join(pieces), sheets.write(right_next(rng, pieces[-1]))
+    room = book + some_left(rng, len(sheet) + rng.choice(SPARE))
+    return Call("a", room, len(book), sheet)
 
 
 def calls_on(rng, pieces):
@@ -377,8 +376,8 @@ def calls_on(rng, pieces):
     yield from (Call("l", book, cell) for cell in looked)
     stepped = places(rng, pieces) + far_places(rng, pieces)
     yield from (Call("b", book, place) for place in stepped)
-    yield from (some_add(rng, pieces) for _ in range(2))
-    yield from far_adds(rng, pieces)
+    yield some_add(rng, pieces)
+    yield right_add(rng, pieces) if len(pieces) > MOST_IN_ROW else some_add(rng, pieces)
 
 
 KINDS = [good] * 6 + [byte_changed, damaged, cut_behind, cut_before, zeros_behind, noisy]
