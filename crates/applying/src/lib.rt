@@ -2,6 +2,8 @@
 // always, in the other modes only if that cell is not pending."
 //
 // The entries are read where the sheet lies; the shelf's two arrays are lent.
+#![tactic(auto)]
+
 ghost use Rattle.std.specs.Prelude.{◌≡◌};
 ghost use Rattle.applying.specs.Applying.{goes, entries_in, AppliesEntries};
 

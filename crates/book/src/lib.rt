@@ -3,6 +3,8 @@
 //
 // A book is any slice of bytes, of any length; a sheet of it stays where it lies. What makes a book
 // good is in specs/Good.antt. A reader that keeps its place is the crate reader's.
+#![tactic(auto)]
+
 ghost use Rattle.std.specs.Prelude.{◌≡◌};
 ghost use Rattle.book.specs.Stepping.{step_back, place_after};
 ghost use Rattle.book.specs.Good.{good_book};

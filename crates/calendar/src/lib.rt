@@ -3,6 +3,8 @@
 //
 // Both calls take every value of their types, and answer 22 outside the calendar. Neither counts
 // through years or days: a year's first day is a formula, a month's stands in a table.
+#![tactic(auto)]
+
 ghost use Rattle.std.specs.Prelude.{◌≡◌, true, ◌<◌};
 ghost use Rattle.calendar.specs.Calendar.{is_date, is_day, days_to, date_at, day_number_of, date_of, said_day, said_date};
 ghost use Rattle.calendar.specs.Parts.{days_in_all};

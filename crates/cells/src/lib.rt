@@ -1,5 +1,7 @@
 // The 64 places of a record's arrays: each is a kind and a day, the two numbers of a content. The
 // arrays are lent, so that no call copies them. specs/Cells.antt says what a place holds.
+#![tactic(auto)]
+
 ghost use Rattle.std.specs.Prelude.{cond, ◌≡◌};
 ghost use Rattle.cells.specs.Cells.{kind_at, day_at, content_at, filled, anywhere, count, put_if};
 

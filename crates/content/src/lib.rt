@@ -2,6 +2,8 @@
 //
 // How a promise is read, here and in every other crate, is said in docs/READING.md, with the kit's
 // words that stand in one.
+#![tactic(auto)]
+
 ghost use Rattle.std.specs.Prelude.{◌≡◌, ◌-ℤ◌};
 ghost use Rattle.answer.specs.Answer.{answered};
 ghost use Rattle.content.specs.Content.{kind_of, day_of, content_of};

@@ -16,6 +16,8 @@
 // What is counted is a call as a function of its own, compiled for any arguments. For that each call
 // stands twice here, or the compiler would build it into its one caller; and `make` stands twice, once
 // with bytes of which the compiler does not know the length.
+#![tactic(auto)]
+
 ghost use Rattle.std.specs.Prelude.{◌≡◌, ◌≤◌, length};
 
 use content::Content;

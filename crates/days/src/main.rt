@@ -3,6 +3,8 @@
 //
 // Three lines say how many answers differ: of every day of the calendar, as a date and back; of a
 // grid of dates around its edges, most of which are none; and of days outside it.
+#![tactic(auto)]
+
 ghost use Rattle.std.specs.Prelude.{◌≤◌};
 
 use calendar::{Date, DateAnswer, DayAnswer};

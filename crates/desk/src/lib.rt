@@ -4,6 +4,8 @@
 // beside its answer. Its promise is one equation with its definition in specs/Calls.antt: `outcome`
 // of what it gives back, with the lent bytes as they are then, is what the definition says. A record
 // is tested where it lies, and copied into the outcome.
+#![tactic(auto)]
+
 ghost use Rattle.std.specs.Prelude.{[], ◌≡◌};
 ghost use Rattle.desk.specs.Answers.{outcome};
 ghost use Rattle.desk.specs.Calls.{open_of, write_of, read_of, send_of, deliver_of, take_of};

@@ -1,6 +1,8 @@
 // The examples of document 01, run by the code and printed; the file stdout beside src/ is what they
 // must print. It is the program of `./register show`. Those marked (P) are proved of the definitions
 // too, all by one statement: crates/edges.
+#![tactic(auto)]
+
 use calendar::{Date, DateAnswer, DayAnswer};
 use content::{Content, Standing};
 use desk::{Answer, Desk, Outcome};

@@ -1,5 +1,7 @@
 // Bytes laid over others in a lent buffer: what every write comes to, of a sheet, a place in a tray, a
 // book, a listing or a record's bytes.
+#![tactic(auto)]
+
 ghost use Rattle.std.specs.Prelude.{◌≡◌};
 ghost use Rattle.laying.specs.Laying.{laid_over};
 

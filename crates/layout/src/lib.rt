@@ -2,6 +2,8 @@
 // trailer". Where each stands among the bytes is in specs/Layout.antt and docs/SHEET.md.
 //
 // No function here refuses: each takes every value of its types, forged ones too.
+#![tactic(auto)]
+
 ghost use Rattle.std.specs.Prelude.{◌≡◌};
 ghost use Rattle.layout.specs.Layout.{entry_for, content_in, numbers_of, trailer_for};
 

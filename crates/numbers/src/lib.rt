@@ -4,6 +4,8 @@
 // complement pattern is met nowhere else than in `signed` and `pattern`.
 //
 // No function here refuses: each takes every value of its types.
+#![tactic(auto)]
+
 ghost use Rattle.std.specs.Prelude.{◌≡◌, [], ◌∷◌, ◌%◌, nat_abs};
 ghost use Rattle.std.specs.Int.{w32};
 ghost use Rattle.std.proofs.Common.{to_z, of_z};

@@ -2,6 +2,8 @@
 // pending entry, an empty sheet if there are none .. Bytes of the lent buffer past the sheet stay."
 //
 // Few cells are pending as a rule: eight places at a time are passed over where none is filled.
+#![tactic(auto)]
+
 ghost use Rattle.std.specs.Prelude.{◌≡◌, ◌+◌, ◌≤◌, length};
 ghost use Rattle.laying.specs.Laying.{laid_over};
 ghost use Rattle.layout.specs.Layout.{entries_bytes};

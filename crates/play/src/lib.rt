@@ -3,6 +3,8 @@
 // `play` is all there is between standard input and standard output. Its promise is one record,
 // `Prints`, of the definition `printed` (specs/Rounds.antt), which reads like 01's section, for every
 // input.
+#![tactic(auto)]
+
 ghost use Rattle.std.specs.Prelude.{◌≡◌, length};
 ghost use Rattle.laying.specs.Laying.{laid_over};
 ghost use Rattle.play.specs.Rounds.{too_long, printed, Prints};

@@ -2,6 +2,8 @@
 //
 // A line has at most 64 bytes. It is laid into a lent buffer from `at` on, where 64 bytes are left, and
 // the answer is where the text goes on; without that room nothing is laid, and the answer is `at`.
+#![tactic(auto)]
+
 ghost use Rattle.std.specs.Prelude.{◌≡◌, ◌+◌, ◌-◌, ◌≤◌};
 ghost use Rattle.printing.specs.StepAnswer.{said_step_answer};
 ghost use Rattle.printing.specs.Printing.{wrote, line_text, header_text};

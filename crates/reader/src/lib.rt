@@ -3,6 +3,8 @@
 //
 // A function over a struct that holds a reference is proved by a walk of its MIR, by hand. So each
 // here is thin: the work is the crate book's, over a slice and a number.
+#![tactic(auto)]
+
 ghost use Rattle.std.specs.Prelude.{◌≡◌};
 ghost use Rattle.book.specs.Stepping.{step_back};
 ghost use Rattle.reader.specs.Reading.{at_end, StepsBack};

@@ -4,6 +4,8 @@
 // Each function finds the first that applies of one list of rules (specs/Rules.antt), for every value
 // of its types. `ok` is whether the record is sound. 11 and 13 are found where a sheet is written or
 // read.
+#![tactic(auto)]
+
 ghost use Rattle.std.specs.Prelude.{◌++◌, ◌≡◌};
 ghost use Rattle.answer.specs.Answer.{first_number};
 ghost use Rattle.refusals.specs.Rules.{open_tests, write_tests, read_tests, send_tests, tray_tests, sheet_tests, turn_tests, is_next, looked_at};

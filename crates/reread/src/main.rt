@@ -7,6 +7,8 @@
 // The records of the file stdin beside src/: 01's examples 1 and 2, cell 1 open, day -1, the days at
 // both ends; not good: example 1 without its last byte, kind 3, 65 desks, open with a day, no byte
 // at all, turn number 4,294,967,295; good: 4,294,967,294; and one that is cut short.
+#![tactic(auto)]
+
 ghost use Rattle.std.specs.Prelude.{◌<◌, length};
 
 use content::Content;

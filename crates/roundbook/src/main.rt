@@ -6,6 +6,8 @@
 // Argument 2 says what is wanted, and argument 3 names the book:
 //     sheets BOOK    lookup BOOK CELL    back BOOK PLACE    add BOOK SHEET ROOM
 
+#![tactic(auto)]
+
 mod answers;
 mod arguments;
 mod files;

@@ -1,6 +1,8 @@
 // The program `rounds`: plays the schedule on standard input, and prints what comes of it. 01, "The
 // program `rounds`". All there is between reading and writing is `play::play`. As the program of
 // `./register play` it plays the file that its argument 2 names.
+#![tactic(auto)]
+
 ghost use Rattle.std.specs.Prelude.{◌≡◌};
 ghost use Rattle.rounds.specs.Refused.{ends_in, is_refused};
 

@@ -3,6 +3,8 @@
 //
 // Every public function takes every text. The definitions speak of a line's words; the code reads each
 // word where it lies.
+#![tactic(auto)]
+
 ghost use Rattle.std.specs.Prelude.{◌≡◌, length};
 ghost use Rattle.schedule.specs.Lines.{ended, lines_of};
 ghost use Rattle.schedule.specs.Start.{start_in, said_start};

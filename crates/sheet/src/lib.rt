@@ -3,6 +3,8 @@
 // `read` takes any slice, in one pass and without a copy: a good sheet gives its trailer's numbers,
 // and its entries stay in the slice, where `entry_at` reads them one by one. What makes a sheet
 // good is in specs/Good.antt; what it is made of is the crate layout's.
+#![tactic(auto)]
+
 ghost use Rattle.std.specs.Prelude.{◌≡◌};
 ghost use Rattle.sheet.specs.Reading.{reading_of, said_read, trailer_at_end, entry_at};
 

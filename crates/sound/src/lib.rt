@@ -2,6 +2,8 @@
 //
 // A record comes as its head, the numbers, and its four arrays, lent. Each loop makes one test of
 // its places to the last and never stops early, so that it compiles to a few wide instructions.
+#![tactic(auto)]
+
 ghost use Rattle.std.specs.Prelude.{◌≡◌};
 ghost use Rattle.cells.specs.Cells.{kind_at, day_at, each};
 ghost use Rattle.sound.specs.Head.{turn_desk, own_turn, read_waits};

@@ -3,6 +3,8 @@
 //
 // Every public function takes every text and every place in it, also one past the end, where there is
 // nothing.
+#![tactic(auto)]
+
 ghost use Rattle.std.specs.Prelude.{◌≡◌, ◌+◌, ◌*◌, ◌-◌, ◌≤◌, ◌<◌, min, length, take, drop};
 ghost use Rattle.text.specs.Separated.{first_part};
 ghost use Rattle.text.specs.Decimal.{no_leading_zero, decimal_at};

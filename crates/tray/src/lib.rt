@@ -2,6 +2,8 @@
 // has one place of 398 bytes per desk, in order: sheet length (2), sheet, zeros to the end."
 //
 // A tray is lent, of any length, and so is the number of a place: what is not there is left alone.
+#![tactic(auto)]
+
 ghost use Rattle.std.specs.Prelude.{◌≡◌, ◌-◌, ◌≤◌, length, replicate};
 ghost use Rattle.numbers.specs.Numbers.{at1};
 ghost use Rattle.laying.specs.Laying.{laid_over};

@@ -5,6 +5,8 @@
 // it. Without argument 1 it was started alone: it reads standard input and prints, and no more.
 // The kit has no exit status, so a program says on descriptor 3 how it ended, and `./register` ends
 // with the status that belongs to it.
+#![tactic(auto)]
+
 ghost use Rattle.std.specs.Prelude.{◌≡◌};
 ghost use Rattle.word.specs.Ending.{digit_of, Says};
 ghost use Rattle.word.specs.Input.{Within};

@@ -4,6 +4,8 @@
 // `write` takes any numbers and entries and any buffer: all is tested before the first byte is
 // written. `put_entry` and `put_trailer` lay one part over a buffer, for a caller that writes a sheet
 // part by part.
+#![tactic(auto)]
+
 ghost use Rattle.std.specs.Prelude.{◌≡◌};
 ghost use Rattle.layout.specs.Layout.{entry_bytes, trailer_bytes};
 ghost use Rattle.laying.specs.Laying.{laid_over};
