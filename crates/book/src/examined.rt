@@ -7,7 +7,7 @@ ghost use Rattle.book.specs.Parts.{fits_before, older_of, examined_of, takes_nex
 use crate::{Back, inside};
 use layout::Numbers;
 
-#[derive(Drop)]
+#[derive(Clone, Copy)]
 pub(crate) enum Examined {
     NotGood,
     // A book of no bytes.
@@ -17,7 +17,7 @@ pub(crate) enum Examined {
 }
 
 // The sheets before a place.
-#[derive(Drop)]
+#[derive(Clone, Copy)]
 pub(crate) enum Older {
     NotGood,
     Sheets(usize),

@@ -23,7 +23,7 @@ use sheet::Reading;
 
 // What a step back gives: a sheet, by where it starts and ends in the book, with its trailer's
 // numbers; or none.
-#[derive(Drop)]
+#[derive(Clone, Copy)]
 pub enum Back {
     Sheet {
         start: usize,
@@ -34,7 +34,7 @@ pub enum Back {
 }
 
 // How many sheets a book has.
-#[derive(Drop)]
+#[derive(Clone, Copy)]
 pub enum Counted {
     Sheets(usize),
     Refused(u8),
@@ -42,14 +42,14 @@ pub enum Counted {
 
 // What a lookup finds: blank, which has no number; or an entry's content, and its sheet's turn
 // number.
-#[derive(Drop)]
+#[derive(Clone, Copy)]
 pub enum Found {
     Blank,
     Entry(Content, u32),
     Refused(u8),
 }
 
-#[derive(Drop)]
+#[derive(Clone, Copy)]
 pub enum Added {
     // The book's new length.
     Length(usize),

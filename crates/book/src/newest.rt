@@ -10,7 +10,7 @@ ghost use Rattle.book.specs.Parts.{hit_of, found_of, find_of};
 use crate::{Back, Found, inside};
 use layout::Entry;
 
-#[derive(Drop)]
+#[derive(Clone, Copy)]
 pub(crate) enum Hit {
     None,
     Entry(Entry),

@@ -16,7 +16,7 @@ mod month;
 mod year;
 
 // A date: the month and the day count from 1.
-#[derive(Drop)]
+#[derive(Clone, Copy)]
 pub struct Date {
     pub year: u16,
     pub month: u8,
@@ -24,14 +24,14 @@ pub struct Date {
 }
 
 // What `number` answers: the day's number, or 22.
-#[derive(Drop)]
+#[derive(Clone, Copy)]
 pub enum DayAnswer {
     Day(i32),
     Refused(u8),
 }
 
 // What `of_day` answers: the day's date, or 22.
-#[derive(Drop)]
+#[derive(Clone, Copy)]
 pub enum DateAnswer {
     Date(Date),
     Refused(u8),

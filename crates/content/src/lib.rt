@@ -11,7 +11,7 @@ ghost use Rattle.content.specs.Standing.{standing_on, said_standing};
 
 // "A cell's content is blank, open, or a day with its signed 32-bit number; each is a case of its
 // own." Blank means never written.
-#[derive(Drop)]
+#[derive(Clone, Copy)]
 pub enum Content {
     Blank,
     Open,
@@ -19,7 +19,7 @@ pub enum Content {
 }
 
 // The standing of a content on a given day: not known, open, or so many days left.
-#[derive(Drop)]
+#[derive(Clone, Copy)]
 pub enum Standing {
     Unknown,
     Open,

@@ -11,7 +11,7 @@ use calendar::{Date, DateAnswer, DayAnswer};
 use libc::STDOUT_FILENO;
 
 // Where the walk is: a date and its day's number. Past the last date it stays on 1 January 2200.
-#[derive(Drop)]
+#[derive(Clone, Copy)]
 struct Walk {
     year: u16,
     month: u8,
@@ -221,7 +221,7 @@ fn walk_to(w: Walk, t: Date) -> Walk {
     w
 }
 
-#[derive(Drop)]
+#[derive(Clone, Copy)]
 struct Count {
     known: u64,
     differ: u64,

@@ -21,7 +21,7 @@ use sound::Head;
 // "A record holds n, m, the desk's own number, mode .., turn number, shelf, pending entries, and the
 // waiting read if any." The head has the numbers; the shelf and the pending entries are an array of
 // kinds and one of days each, with 64 places. A pending place that is not blank is a pending entry.
-#[derive(Drop)]
+#[derive(Clone, Copy)]
 pub struct Desk {
     pub head: Head,
     pub kind: [u8; 64],
@@ -32,7 +32,7 @@ pub struct Desk {
 
 // What a call answers: one shape for all calls. `said_answer` (specs/Answers.antt) gives 01's numbers and
 // values for each case.
-#[derive(Drop)]
+#[derive(Clone, Copy)]
 pub enum Answer {
     Opened,
     Stored,
@@ -59,7 +59,7 @@ pub enum Answer {
 }
 
 // "Each call takes the record and gives back the next record beside its answer."
-#[derive(Drop)]
+#[derive(Clone, Copy)]
 pub struct Outcome {
     pub answer: Answer,
     pub desk: Desk,

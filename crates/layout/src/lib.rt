@@ -11,7 +11,7 @@ use content::Content;
 
 // An entry as it stands in a sheet: the day is the number of its four bytes. Not every kind and day
 // is a good entry's.
-#[derive(Drop)]
+#[derive(Clone, Copy)]
 pub struct Entry {
     pub cell: u8,
     pub kind: u8,
@@ -19,7 +19,7 @@ pub struct Entry {
 }
 
 // A trailer as it stands in a sheet.
-#[derive(Drop)]
+#[derive(Clone, Copy)]
 pub struct Trailer {
     pub distance: u16,
     pub entries: u8,
@@ -32,7 +32,7 @@ pub struct Trailer {
 }
 
 // The numbers that a trailer carries.
-#[derive(Drop)]
+#[derive(Clone, Copy)]
 pub struct Numbers {
     pub entries: u8,
     pub sender: u8,

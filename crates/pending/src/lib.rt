@@ -13,7 +13,7 @@ ghost use Rattle.pending.specs.Parts.{some_of_eight, pending_at, pending_from, L
 use layout::{Entry, Numbers};
 use sound::Head;
 
-#[derive(Drop)]
+#[derive(Clone, Copy)]
 pub enum Sent {
     // The number of entries.
     Entries(u8),

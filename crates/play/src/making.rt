@@ -9,7 +9,7 @@ use printing::StepAnswer;
 use schedule::Act;
 
 // What a step comes to, and the desk's next record.
-#[derive(Drop)]
+#[derive(Clone, Copy)]
 pub(crate) struct StepOutcome {
     pub(crate) answer: StepAnswer,
     pub(crate) desk: Desk,

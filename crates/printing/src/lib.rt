@@ -13,7 +13,7 @@ use desk::Answer;
 mod answers;
 
 // What a step comes to.
-#[derive(Drop)]
+#[derive(Clone, Copy)]
 pub enum StepAnswer {
     OfCall(Answer),
     // `d` before the sender has sent.

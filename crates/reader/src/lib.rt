@@ -11,7 +11,7 @@ ghost use Rattle.reader.specs.Reading.{at_end, StepsBack};
 
 use book::Back;
 
-#[derive(Drop)]
+#[derive(Clone, Copy)]
 pub struct Reader<'a> {
     pub book: &'a [u8],
     pub place: usize,

@@ -94,7 +94,7 @@ fn is_next(h: Head, x: Numbers) -> bool
 
 // What a look at the place of the desk whose turn it is finds: the number of a refusal, or 0 and the
 // number of entries of the sheet.
-#[derive(Drop)]
+#[derive(Clone, Copy)]
 pub struct Looked {
     pub number: u8,
     pub entries: u8,

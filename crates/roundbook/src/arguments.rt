@@ -1,7 +1,7 @@
 // The words behind `./register book`.
 use libc::STDERR_FILENO;
 
-#[derive(Drop)]
+#[derive(Clone, Copy)]
 pub(crate) enum Wanted {
     Sheets,
     Lookup,
@@ -12,7 +12,7 @@ pub(crate) enum Wanted {
 
 // A word that is to be a number, decimal without leading zeros. One beyond 32 bits is given as
 // 4,294,967,296: more than any cell, place or room that counts here.
-#[derive(Drop)]
+#[derive(Clone, Copy)]
 pub(crate) enum Number {
     Is(usize),
     None,

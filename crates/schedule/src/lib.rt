@@ -16,7 +16,7 @@ mod steps;
 mod words;
 
 // "Line 1: desks, cells, mode letter". The mode is open's: 0 for the default.
-#[derive(Drop)]
+#[derive(Clone, Copy)]
 pub enum Start {
     Shelf { n: u32, m: u32, mode: u32 },
     // A line that says no shelf.
@@ -24,7 +24,7 @@ pub enum Start {
 }
 
 // What a desk is to do.
-#[derive(Drop)]
+#[derive(Clone, Copy)]
 pub enum Act {
     Write { cell: u32, content: Content },
     Read { cell: u32 },
@@ -35,7 +35,7 @@ pub enum Act {
 }
 
 // What a line says as a step: which desk, and what it does.
-#[derive(Drop)]
+#[derive(Clone, Copy)]
 pub enum Step {
     Does { desk: u32, act: Act },
     // A bad line.

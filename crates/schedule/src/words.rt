@@ -6,7 +6,7 @@ use content::Content;
 use text::Decimal;
 
 // A word that should be a number of 32 bits: whether it is, its value, and where it ends.
-#[derive(Drop)]
+#[derive(Clone, Copy)]
 pub(crate) struct Number {
     pub(crate) ok: bool,
     pub(crate) value: u32,
@@ -14,14 +14,14 @@ pub(crate) struct Number {
 }
 
 // A word that should be a letter: its byte, 0 where it is not of one byte, and where it ends.
-#[derive(Drop)]
+#[derive(Clone, Copy)]
 pub(crate) struct Letter {
     pub(crate) byte: u8,
     pub(crate) end: usize,
 }
 
 // A word that should be a day or `open`: whether it is, what it says, and where it ends.
-#[derive(Drop)]
+#[derive(Clone, Copy)]
 pub(crate) struct Given {
     pub(crate) ok: bool,
     pub(crate) content: Content,

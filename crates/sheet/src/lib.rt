@@ -14,7 +14,7 @@ mod good;
 pub use good::{good_entries, good_entry, good_trailer};
 use layout::{Entry, Numbers, Trailer};
 
-#[derive(Drop)]
+#[derive(Clone, Copy)]
 pub enum Reading {
     // The numbers of a good sheet; its entries are the first `entries` in the slice.
     Good(Numbers),

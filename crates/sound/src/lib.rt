@@ -12,7 +12,7 @@ ghost use Rattle.sound.specs.Parts.{blank_from, kinds_fit, wanted_day, pending_d
 
 // The numbers of a record: desks, cells, own number, mode, turn number, and the waiting read: 0 where
 // none waits, else one more than its cell.
-#[derive(Drop)]
+#[derive(Clone, Copy)]
 pub struct Head {
     pub n: u8,
     pub m: u8,

@@ -12,7 +12,7 @@ ghost use Rattle.tray.specs.Tray.{length_at, free, zeros, place_of, held_in, cle
 use layout::Numbers;
 use sheet::Reading;
 
-#[derive(Drop)]
+#[derive(Clone, Copy)]
 pub enum Place {
     // The first two bytes are zero.
     Free,

@@ -18,7 +18,7 @@ const ENDING: i32 = 3;
 
 // What came of reading: so many bytes, up to the input's end or the buffer's; or it failed, and then
 // the bytes that came before are not the input.
-#[derive(Drop)]
+#[derive(Clone, Copy)]
 pub enum Input {
     Read(usize),
     Failed,
@@ -26,7 +26,7 @@ pub enum Input {
 
 // What came of answering: it was printed, and this digit said how the program ended; or it could not
 // be printed whole.
-#[derive(Drop)]
+#[derive(Clone, Copy)]
 pub enum Said {
     Ended(u8),
     Unwritten,

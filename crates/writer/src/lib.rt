@@ -15,7 +15,7 @@ mod given;
 
 use layout::{Entry, Numbers, Trailer};
 
-#[derive(Drop)]
+#[derive(Clone, Copy)]
 pub enum Written {
     // The sheet's length.
     Sheet(usize),
