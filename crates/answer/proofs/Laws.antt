@@ -58,12 +58,12 @@ refused_only_if (r ∷ rs) a k e = by_test (refused_only_if rs a k) r.applies re
     by_test rest true p = this p (same_number r.number k a (sym (rw p) ∙ e))
     by_test rest false p = later p (rest (sym (rw p) ∙ e))
 
-pub refused_if : {A : Type 0} {rs : List Rule} {k : ℕ} (a : A) → First k rs → answer rs a ≡ refused k
+pub refused_if : {A : Type 0} {k : ℕ} {rs : List Rule} (a : A) → First k rs → answer rs a ≡ refused k
 refused_if a (this p n) = rw p (ap refused n)
 refused_if a (later p f) = rw p (refused_if a f)
 
 -- "and the record and all lent bytes are as before"
-pub unchanged_if : {A : Type 0} {rs : List Rule} {k : ℕ} (before after : A) → First k rs → leaves rs before after ≡ before
+pub unchanged_if : {A : Type 0} {k : ℕ} {rs : List Rule} (before after : A) → First k rs → leaves rs before after ≡ before
 unchanged_if before after (this p n) = rw p
 unchanged_if before after (later p f) = rw p (unchanged_if before after f)
 
@@ -92,12 +92,12 @@ unfolding first_number
 number_of_silent [] s = refl
 number_of_silent (r ∷ rs) s = rw s.0 (number_of_silent rs s.1)
 
-pub number_of_first : {rs : List Rule} {k : ℕ} → First k rs → first_number rs ≡ k
+pub number_of_first : {k : ℕ} {rs : List Rule} → First k rs → first_number rs ≡ k
 unfolding first_number
 number_of_first (this p n) = rw p n
 number_of_first (later p f) = rw p (number_of_first f)
 
-pub first_is_some : {rs : List Rule} {k : ℕ} → Numbered rs → First k rs → k ≡ 0 → ⊥
+pub first_is_some : {k : ℕ} {rs : List Rule} → Numbered rs → First k rs → k ≡ 0 → ⊥
 first_is_some some (this p n) e = let z = n ∙ e in omega (arith, some.0, z)
 first_is_some some (later p f) e = first_is_some some.1 f e
 
@@ -136,7 +136,7 @@ abbrev pub gives : (ℕ → Bool) → List Rule → Bool
 gives such [] = false
 gives such (r ∷ rs) = cond r.applies (such r.number) (gives such rs)
 
-pub gives_such : (such : ℕ → Bool) {rs : List Rule} {k : ℕ} → First k rs → gives such rs ≡ such k
+pub gives_such : (such : ℕ → Bool) {k : ℕ} {rs : List Rule} → First k rs → gives such rs ≡ such k
 gives_such such (this p n) = rw p (ap such n)
 gives_such such (later p f) = rw p (gives_such such f)
 

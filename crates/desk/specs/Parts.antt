@@ -14,21 +14,21 @@ use Rattle.desk.specs.declared.Answer.TheVariants as answers
 unfoldable pub given : ℕ → Answer → Answer
 given number a = cond (eqb number 0) a (answers.Refused number)
 
-unfoldable pub openedHead : ℕ → ℕ → ℕ → ℕ → ℕ → Head
-openedHead number n m own mode = cond (eqb number 0) (fresh_head n m own (mode_for mode)) (fresh_head 0 0 0 0)
+unfoldable pub opened_head : ℕ → ℕ → ℕ → ℕ → ℕ → Head
+opened_head number n m own mode = cond (eqb number 0) (fresh_head n m own (mode_for mode)) (fresh_head 0 0 0 0)
 
 -- `must_wait`, of a head and pending kinds
 unfoldable pub waits_for : Head → List ℕ → ℕ → Bool
 waits_for h pkind cell = sequential h && anywhere 64 (filled pkind) && blank pkind cell && not (own_turn h)
 
-unfoldable pub waitAt : Bool → ℕ → ℕ → ℕ
-waitAt waits wait cell = cond (waits && ltb cell 64) (cell + 1) wait
+unfoldable pub wait_at : Bool → ℕ → ℕ → ℕ
+wait_at waits wait cell = cond (waits && ltb cell 64) (cell + 1) wait
 
-unfoldable pub readAnswer : Bool → Content → Answer
-readAnswer waits c = cond waits answers.Waits (answers.Holds c)
+unfoldable pub read_answer : Bool → Content → Answer
+read_answer waits c = cond waits answers.Waits (answers.Holds c)
 
-unfoldable pub heldIf : Bool → List ℕ → ℕ → List ℕ → List ℕ
-heldIf on tray q s = cond on (held_in tray q s) tray
+unfoldable pub held_if : Bool → List ℕ → ℕ → List ℕ → List ℕ
+held_if on tray q s = cond on (held_in tray q s) tray
 
-unfoldable pub takenAnswer : ℕ → ℕ → ℕ → Bool → Content → Answer
-takenAnswer turn entries applied over c = cond over (answers.TakenAndRead turn entries applied c) (answers.Taken turn entries applied)
+unfoldable pub taken_answer : ℕ → ℕ → ℕ → Bool → Content → Answer
+taken_answer turn entries applied over c = cond over (answers.TakenAndRead turn entries applied c) (answers.Taken turn entries applied)

@@ -4,7 +4,7 @@ ghost use Rattle.sound.specs.Head.{causal, wait_cell};
 ghost use Rattle.tray.specs.Tray.{place_start};
 ghost use Rattle.applying.specs.Applying.{entries_in, AppliesEntries};
 ghost use Rattle.desk.specs.Calls.{mode_for, next_head, read_ends};
-ghost use Rattle.desk.specs.Parts.{given, openedHead, waits_for, waitAt, readAnswer, heldIf, takenAnswer};
+ghost use Rattle.desk.specs.Parts.{given, opened_head, waits_for, wait_at, read_answer, held_if, taken_answer};
 
 use crate::Answer;
 use content::Content;
@@ -35,7 +35,7 @@ fn mode_for(mode: u32) -> u8
 // The head of a desk that was opened, or of zeros where open refuses.
 pub(crate) fn opened_head(number: u8, n: u32, m: u32, own: u32, mode: u32) -> Head
     requires { number ≡ 0 → (n < 256) × ((m < 256) × ((own < 256) × (mode < 256))) }
-    ensures { result ≡ openedHead number n m own mode }
+    ensures { result ≡ opened_head number n m own mode }
 {
     if number == 0 {
         return Head {
@@ -81,7 +81,7 @@ pub(crate) fn must_wait(on: bool, h: Head, pkind: &[u8; 64], cell: usize) -> boo
 
 // The waiting read's number, with one more than the cell where a read begins to wait.
 pub(crate) fn wait_at(waits: bool, wait: u8, cell: u32) -> u8
-    ensures { result ≡ waitAt waits wait cell }
+    ensures { result ≡ wait_at waits wait cell }
 {
     if waits {
         if cell < 64 {
@@ -92,7 +92,7 @@ pub(crate) fn wait_at(waits: bool, wait: u8, cell: u32) -> u8
 }
 
 pub(crate) fn read_answer(waits: bool, c: Content) -> Answer
-    ensures { result ≡ readAnswer waits c }
+    ensures { result ≡ read_answer waits c }
 {
     if waits {
         Answer::Waits
@@ -148,7 +148,7 @@ pub(crate) fn wait_cell(h: Head) -> usize
 
 // Puts a sheet into the place of desk q, where `on` holds.
 pub(crate) fn hold_if(tray: &mut [u8], on: bool, q: u8, sheet: &[u8])
-    ensures { tray.new ≡ heldIf on tray.old q sheet.now }
+    ensures { tray.new ≡ held_if on tray.old q sheet.now }
 {
     if on {
         tray::hold(tray, q, sheet);
@@ -173,7 +173,7 @@ pub(crate) fn apply_from(
 }
 
 pub(crate) fn taken_answer(turn: u32, entries: u8, applied: u8, over: bool, c: Content) -> Answer
-    ensures { result ≡ takenAnswer turn entries applied over c }
+    ensures { result ≡ taken_answer turn entries applied over c }
 {
     if over {
         return Answer::TakenAndRead {

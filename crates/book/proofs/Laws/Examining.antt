@@ -25,9 +25,9 @@ use Rattle.book.specs.Sheets.{last_sheet, before, sheets_back, sheets_of}
 use Rattle.book.specs.Good.{numbers_in, good_sheets, good_book}
 use Rattle.book.specs.Stepping.{part_of, step_back}
 use Rattle.book.specs.Parts.{fits_before, good_before, older_of, sheets_found, examined_of, takes_next}
-use Rattle.book.proofs.Laws.Sheets.{sheets_none, sheets_cut, sheets-few}
-use Rattle.book.proofs.Laws.Good.{good-is-before}
-use Rattle.book.proofs.Laws.Stepping.{Stepped, stepped, stepped-none}
+use Rattle.book.proofs.Laws.Sheets.{sheets_none, sheets_cut, sheets_few}
+use Rattle.book.proofs.Laws.Good.{good_is_before}
+use Rattle.book.proofs.Laws.Stepping.{Stepped, stepped, stepped_none}
 
 -- ---- the sheets before a place
 
@@ -41,56 +41,56 @@ module _ (b : List ℕ) (place : ℕ) (newest : Numbers) where
   abbrev whole : Older
   whole = older_of newest newest.turn (sheets_of (take place b))
 
-  pub older-begun : place ≤ length b → OlderSoFar b place newest place newest.turn 0
-  older-begun h = record { within = h; few = omega arith; rest = refl; count = omega arith }
+  pub older_begun : place ≤ length b → OlderSoFar b place newest place newest.turn 0
+  older_begun h = record { within = h; few = omega arith; rest = refl; count = omega arith }
 
   module _ {at turn sheets : ℕ} (so : OlderSoFar b place newest at turn sheets) where
-    pub older-within : at ≤ length b
-    older-within = omega (arith, so.few, so.within)
+    pub older_within : at ≤ length b
+    older_within = omega (arith, so.few, so.within)
 
-    older-bad : good_before newest turn (sheets_of (take at b)) ≡ false → older.NotGood ≡ whole
-    older-bad g = rw (so.rest, g)
+    older_bad : good_before newest turn (sheets_of (take at b)) ≡ false → older.NotGood ≡ whole
+    older_bad g = rw (so.rest, g)
 
-    pub older-ended : at ≤ 0 → older.Sheets sheets ≡ whole
+    pub older_ended : at ≤ 0 → older.Sheets sheets ≡ whole
     unfolding good_before
-    older-ended h =
+    older_ended h =
         let front : at ≡ 0 = omega arith in
         let none : sheets_of (take at b) ≡ [] = sheets_none (take at b) (rw front) in
         let all : length (sheets_of (take place b)) ≡ sheets = so.count ∙ rw none (omega arith) in
         rw (so.rest, none, all)
 
     module _ (r : Back) (is : r ≡ step_back b at) where
-      pub older-none : 0 < at → r ≡ back.None → older.NotGood ≡ whole
+      pub older_none : 0 < at → r ≡ back.None → older.NotGood ≡ whole
       unfolding good_before
-      older-none h e =
+      older_none h e =
           let tall : length (take at b) ≡ at = length-take-le at b (omega (arith, so.few, so.within)) in
-          let g = stepped-none b at r is e (omega (arith, so.few, so.within)) in
-          older-bad (rw (sheets_cut (take at b) (omega arith), g))
+          let g = stepped_none b at r is e (omega (arith, so.few, so.within)) in
+          older_bad (rw (sheets_cut (take at b) (omega arith), g))
 
       module _ (start end : ℕ) (n : Numbers) (e : r ≡ back.Sheet start end n) where
         step : Stepped b at start end n
         step = stepped b at r is start end n e
 
-        pub older-less : start < at
-        older-less = omega (arith, step.starts)
+        pub older_less : start < at
+        older_less = omega (arith, step.starts)
 
-        pub older-fits : Fits w64 place → Fits w64 (sheets + 1)
-        older-fits f = record { fits = omega (arith, so.few, step.starts, f.fits) }
+        pub older_fits : Fits w64 place → Fits w64 (sheets + 1)
+        older_fits f = record { fits = omega (arith, so.few, step.starts, f.fits) }
 
         module _ (t : Bool) (test : t ≡ fits_before n newest turn) where
           goes_on : good_before newest turn (sheets_of (take at b)) ≡ t && good_before newest n.turn (sheets_of (take start b))
           unfolding good_before
           goes_on =
-              rw (step.sheets-are, step.is_good)
+              rw (step.sheets_are, step.is_good)
               (ap (λ (x : Numbers). fits_before x newest turn && good_before newest x.turn (sheets_of (take start b))) (sym step.numbers_are)
               ∙ ap (λ (u : Bool). u && good_before newest n.turn (sheets_of (take start b))) (sym test))
 
-          pub older-misfit : not t ≡ true → older.NotGood ≡ whole
-          older-misfit off = older-bad (goes_on ∙ rw (not-true t off))
+          pub older_misfit : not t ≡ true → older.NotGood ≡ whole
+          older_misfit off = older_bad (goes_on ∙ rw (not-true t off))
 
-          pub older-turned : not t ≡ false → OlderSoFar b place newest start n.turn (sheets + 1)
-          older-turned on =
-              let one : length (sheets_of (take at b)) ≡ suc (length (sheets_of (take start b))) = ap length step.sheets-are in
+          pub older_turned : not t ≡ false → OlderSoFar b place newest start n.turn (sheets + 1)
+          older_turned on =
+              let one : length (sheets_of (take at b)) ≡ suc (length (sheets_of (take start b))) = ap length step.sheets_are in
               record {
                 within = so.within;
                 few = omega (arith, so.few, step.starts);
@@ -98,54 +98,54 @@ module _ (b : List ℕ) (place : ℕ) (newest : Numbers) where
                 count = so.count ∙ omega (arith, one);
               }
 
-pub ruleset olders = (older-begun, older-within, older-ended, older-none, older-less, older-fits, older-misfit, older-turned)
+pub ruleset olders = (older_begun, older_within, older_ended, older_none, older_less, older_fits, older_misfit, older_turned)
 
 -- ---- the whole book
 
 module _ (b : List ℕ) where
-  pub examine-empty : length b ≡ 0 → examined.Empty ≡ examined_of b
+  pub examine_empty : length b ≡ 0 → examined.Empty ≡ examined_of b
   unfolding good_sheets
-  examine-empty e = rw (sheets_none b e)
+  examine_empty e = rw (sheets_none b e)
 
   module _ (some : length b ≡ 0 → ⊥) (r : Back) (is : r ≡ step_back b (length b)) where
     up : 0 < length b
     up = omega arith
 
-    pub examine-none : r ≡ back.None → examined.NotGood ≡ examined_of b
-    examine-none e =
-        let g : good (last_sheet b) ≡ false = subst (λ (l : List ℕ). good (last_sheet l) ≡ false) (take-length b) (stepped-none b (length b) r is e (omega arith)) in
-        rw (sheets_cut b up, good-is-before (last_sheet b) (sheets_of (before b)), g)
+    pub examine_none : r ≡ back.None → examined.NotGood ≡ examined_of b
+    examine_none e =
+        let g : good (last_sheet b) ≡ false = subst (λ (l : List ℕ). good (last_sheet l) ≡ false) (take-length b) (stepped_none b (length b) r is e (omega arith)) in
+        rw (sheets_cut b up, good_is_before (last_sheet b) (sheets_of (before b)), g)
 
     module _ (start end : ℕ) (n : Numbers) (e : r ≡ back.Sheet start end n) where
       last : Stepped b (length b) start end n
       last = stepped b (length b) r is start end n e
 
-      pub examine-room : start ≤ length b
-      examine-room = omega (arith, last.starts)
+      pub examine_room : start ≤ length b
+      examine_room = omega (arith, last.starts)
 
-      sheets-are : sheets_of b ≡ part_of b start (length b) ∷ sheets_of (take start b)
-      sheets-are = ap sheets_of (sym (take-length b)) ∙ last.sheets-are
+      sheets_are : sheets_of b ≡ part_of b start (length b) ∷ sheets_of (take start b)
+      sheets_are = ap sheets_of (sym (take-length b)) ∙ last.sheets_are
 
       good_is : good_book b ≡ good_before n n.turn (sheets_of (take start b))
       good_is =
-          ap good_sheets sheets-are
-          ∙ good-is-before (part_of b start (length b)) (sheets_of (take start b))
+          ap good_sheets sheets_are
+          ∙ good_is_before (part_of b start (length b)) (sheets_of (take start b))
           ∙ rw last.is_good
           (ap (λ (x : Numbers). good_before x x.turn (sheets_of (take start b))) (sym last.numbers_are))
 
       module _ (o : Older) (found : o ≡ older_of n n.turn (sheets_of (take start b))) where
-        pub examine-older : o ≡ older.NotGood → examined.NotGood ≡ examined_of b
-        examine-older is-bad = by_test (good_book b) refl
+        pub examine_older : o ≡ older.NotGood → examined.NotGood ≡ examined_of b
+        examine_older is_bad = by_test (good_book b) refl
           where
             by_test : (g : Bool) → good_book b ≡ g → examined.NotGood ≡ examined_of b
             by_test false g = rw g
             by_test true g =
-                let same : older.NotGood ≡ older.Sheets (length (sheets_of (take start b))) = sym is-bad ∙ found ∙ rw (sym good_is ∙ g) in
+                let same : older.NotGood ≡ older.Sheets (length (sheets_of (take start b))) = sym is_bad ∙ found ∙ rw (sym good_is ∙ g) in
                 let z : ◌≡◌ {A = ℕ} 0 1 = cc in
                 absurd (omega arith)
 
-        so-many : (k : ℕ) → o ≡ older.Sheets k → (good_book b ≡ true) × (k ≡ length (sheets_of (take start b)))
-        so-many k is-so = by_test (good_book b) refl
+        so_many : (k : ℕ) → o ≡ older.Sheets k → (good_book b ≡ true) × (k ≡ length (sheets_of (take start b)))
+        so_many k is-so = by_test (good_book b) refl
           where
             by_test : (g : Bool) → good_book b ≡ g → (good_book b ≡ true) × (k ≡ length (sheets_of (take start b)))
             by_test true g =
@@ -156,22 +156,22 @@ module _ (b : List ℕ) where
                 let z : ◌≡◌ {A = ℕ} 0 1 = cc in
                 absurd (omega arith)
 
-        pub examine-fits : (k : ℕ) → o ≡ older.Sheets k → Fits w64 (length b) → Fits w64 (k + 1)
-        examine-fits k is-so f =
-            let long : length (take start b) ≡ start = length-take-le start b examine-room in
-            record { fits = omega (arith, (so-many k is-so).1, sheets-few (take start b), long, last.starts, f.fits) }
+        pub examine_fits : (k : ℕ) → o ≡ older.Sheets k → Fits w64 (length b) → Fits w64 (k + 1)
+        examine_fits k is-so f =
+            let long : length (take start b) ≡ start = length-take-le start b examine_room in
+            record { fits = omega (arith, (so_many k is-so).1, sheets_few (take start b), long, last.starts, f.fits) }
 
-        pub examine-sheets : (k : ℕ) → o ≡ older.Sheets k → examined.Sheets (k + 1) n ≡ examined_of b
-        examine-sheets k is-so =
-            let so = so-many k is-so in
+        pub examine_sheets : (k : ℕ) → o ≡ older.Sheets k → examined.Sheets (k + 1) n ≡ examined_of b
+        examine_sheets k is-so =
+            let so = so_many k is-so in
             let all : k + 1 ≡ suc (length (sheets_of (take start b))) = omega (arith, so.1) in
             ap (λ (x : ℕ). examined.Sheets x n) all
             ∙ ap (examined.Sheets (suc (length (sheets_of (take start b))))) last.numbers_are
-            ∙ sym (rw (so.0, sheets-are))
+            ∙ sym (rw (so.0, sheets_are))
 
-pub ruleset examines = (examine-empty, examine-none, examine-room, examine-older, examine-fits, examine-sheets)
+pub ruleset examines = (examine_empty, examine_none, examine_room, examine_older, examine_fits, examine_sheets)
 
 -- ---- adding to it
 
-pub takes-known : (seen : Examined) (k : ℕ) (newest n : Numbers) → seen ≡ examined.Sheets k newest → (t : Bool) → t ≡ fits_before newest n n.turn → t ≡ takes_next seen n
-takes-known seen k newest n is t test = test ∙ ap (λ (x : Examined). takes_next x n) (sym is)
+pub takes_known : (seen : Examined) (k : ℕ) (newest n : Numbers) → seen ≡ examined.Sheets k newest → (t : Bool) → t ≡ fits_before newest n n.turn → t ≡ takes_next seen n
+takes_known seen k newest n is t test = test ∙ ap (λ (x : Examined). takes_next x n) (sym is)

@@ -16,11 +16,11 @@ use Rattle.book.specs.Parts.{good_before}
 use Rattle.book.proofs.Laws.Sheets.{sheets_behind}
 
 -- the first of these sheets, if there is one, has the number below this one
-abbrev nextBelow : ℕ → List (List ℕ) → Bool
-nextBelow turn [] = true
-nextBelow turn (o ∷ os) = eqb ((numbers_in o).turn + 1) turn
+abbrev next_below : ℕ → List (List ℕ) → Bool
+next_below turn [] = true
+next_below turn (o ∷ os) = eqb ((numbers_in o).turn + 1) turn
 
-next_is : (s : List ℕ) (os : List (List ℕ)) → next_after s os ≡ nextBelow (numbers_in s).turn os
+next_is : (s : List ℕ) (os : List (List ℕ)) → next_after s os ≡ next_below (numbers_in s).turn os
 next_is s [] = refl
 next_is s (o ∷ os) = refl
 
@@ -29,22 +29,22 @@ by_kind_of_test : (ok shelf turn goods shelves next rest : Bool)
     → ok && (shelf && turn) && (goods && shelves && (next && rest)) ≡ ok && goods && (shelf && shelves) && (turn && (next && rest))
 by_kind_of_test ok shelf turn goods shelves next rest = simp in_any_order
 
-before-is : (n : Numbers) (turn : ℕ) (os : List (List ℕ))
-    → good_before n turn os ≡ every_sheet good os && every_sheet (λ o. same_shelf (numbers_in o) n) os && (nextBelow turn os && in_turn os)
+before_is : (n : Numbers) (turn : ℕ) (os : List (List ℕ))
+    → good_before n turn os ≡ every_sheet good os && every_sheet (λ o. same_shelf (numbers_in o) n) os && (next_below turn os && in_turn os)
 unfolding good_before
-before-is n turn [] = refl
-before-is n turn (o ∷ os) =
-    rw (before-is n (numbers_in o).turn os, next_is o os)
-    (by_kind_of_test (good o) (same_shelf (numbers_in o) n) (eqb ((numbers_in o).turn + 1) turn) (every_sheet good os) (every_sheet (λ o. same_shelf (numbers_in o) n) os) (nextBelow (numbers_in o).turn os) (in_turn os))
+before_is n turn [] = refl
+before_is n turn (o ∷ os) =
+    rw (before_is n (numbers_in o).turn os, next_is o os)
+    (by_kind_of_test (good o) (same_shelf (numbers_in o) n) (eqb ((numbers_in o).turn + 1) turn) (every_sheet good os) (every_sheet (λ o. same_shelf (numbers_in o) n) os) (next_below (numbers_in o).turn os) (in_turn os))
 
-newest-first : (ok goods shelves next rest : Bool) → ok && goods && shelves && (next && rest) ≡ ok && (goods && shelves && (next && rest))
-newest-first ok goods shelves next rest = simp in_any_order
+newest_first : (ok goods shelves next rest : Bool) → ok && goods && shelves && (next && rest) ≡ ok && (goods && shelves && (next && rest))
+newest_first ok goods shelves next rest = simp in_any_order
 
-pub good-is-before : (s : List ℕ) (os : List (List ℕ)) → good_sheets (s ∷ os) ≡ good s && good_before (numbers_in s) (numbers_in s).turn os
+pub good_is_before : (s : List ℕ) (os : List (List ℕ)) → good_sheets (s ∷ os) ≡ good s && good_before (numbers_in s) (numbers_in s).turn os
 unfolding good_sheets
-good-is-before s os =
-    rw (before-is (numbers_in s) (numbers_in s).turn os, next_is s os)
-    (newest-first (good s) (every_sheet good os) (every_sheet (λ o. same_shelf (numbers_in o) (numbers_in s)) os) (nextBelow (numbers_in s).turn os) (in_turn os))
+good_is_before s os =
+    rw (before_is (numbers_in s) (numbers_in s).turn os, next_is s os)
+    (newest_first (good s) (every_sheet good os) (every_sheet (λ o. same_shelf (numbers_in o) (numbers_in s)) os) (next_below (numbers_in s).turn os) (in_turn os))
 
-pub good-behind : (b s : List ℕ) → good s ≡ true → good_book (b ++ s) ≡ good_before (numbers_in s) (numbers_in s).turn (sheets_of b)
-good-behind b s g = ap good_sheets (sheets_behind b s g) ∙ good-is-before s (sheets_of b) ∙ rw g
+pub good_behind : (b s : List ℕ) → good s ≡ true → good_book (b ++ s) ≡ good_before (numbers_in s) (numbers_in s).turn (sheets_of b)
+good_behind b s g = ap good_sheets (sheets_behind b s g) ∙ good_is_before s (sheets_of b) ∙ rw g

@@ -34,7 +34,7 @@ use Rattle.book.specs.Stepping.{part_of, step_back}
 use Rattle.book.specs.Lookup.{LastSet, blank, entry, entries_in, entry_on, or_older, newest}
 use Rattle.book.specs.Parts.{hit_of, found_of}
 use Rattle.book.proofs.Laws.Sheets.{sheets_none, sheets_cut}
-use Rattle.book.proofs.Laws.Stepping.{Stepped, stepped, stepped-none}
+use Rattle.book.proofs.Laws.Stepping.{Stepped, stepped, stepped_none}
 
 -- ---- a sheet's entries
 
@@ -47,13 +47,13 @@ module _ (s : List ℕ) (count cell : ℕ) where
   abbrev es : List Entry
   es = entries_of count s
 
-  pub hit-begun : 6 * count + 12 ≤ length s → HitSoFar s count cell 0
-  hit-begun h = record { room = h; within = omega arith; passed = refl }
+  pub hit_begun : 6 * count + 12 ≤ length s → HitSoFar s count cell 0
+  hit_begun h = record { room = h; within = omega arith; passed = refl }
 
   module _ {k : ℕ} (so : HitSoFar s count cell k) where
-    pub hit-none : count ≤ k → hit.None ≡ hit_of (entry_on cell es)
+    pub hit_none : count ≤ k → hit.None ≡ hit_of (entry_on cell es)
     unfolding entry_on
-    hit-none h = rw (so.passed, drop_of_length-le es {i = k} (omega (arith, entries_count count s)))
+    hit_none h = rw (so.passed, drop_of_length-le es {i = k} (omega (arith, entries_count count s)))
 
     module _ (h : k < count) where
       stands : drop k es ≡ entry_at s k ∷ drop (k + 1) es
@@ -71,21 +71,21 @@ module _ (s : List ℕ) (count cell : ℕ) where
           let first : 6 * k + 0 ≡ 6 * k = omega arith in
           ap (λ (e : Entry). e.cell) at ∙ get_or-drop (6 * k) s 0 0 ∙ ap (λ (i : ℕ). get_or s i 0) first
 
-      pub hit-found : get_or s (6 * k) 0 ≡ cell → (e : Entry) → e ≡ entry_at s k → hit.Entry e ≡ hit_of (entry_on cell es)
+      pub hit_found : get_or s (6 * k) 0 ≡ cell → (e : Entry) → e ≡ entry_at s k → hit.Entry e ≡ hit_of (entry_on cell es)
       unfolding entry_on
-      hit-found c e entry_is =
+      hit_found c e entry_is =
           ap hit.Entry entry_is ∙ sym (rw (so.passed, stands, eq-eqb (entry_at s k).cell cell (its_cell ∙ c)))
 
-      pub hit-turned : (get_or s (6 * k) 0 ≡ cell → ⊥) → HitSoFar s count cell (k + 1)
+      pub hit_turned : (get_or s (6 * k) 0 ≡ cell → ⊥) → HitSoFar s count cell (k + 1)
       unfolding entry_on
-      hit-turned c =
+      hit_turned c =
           record {
             room = so.room;
             within = omega arith;
             passed = so.passed ∙ ap (entry_on cell) stands ∙ rw (ne_eqb (entry_at s k).cell cell (λ e. c (sym its_cell ∙ e)));
           }
 
-pub ruleset hits = (hit-begun, hit-none, hit-found, hit-turned)
+pub ruleset hits = (hit_begun, hit_none, hit_found, hit_turned)
 
 -- ---- back through a book
 
@@ -98,8 +98,8 @@ module _ (b : List ℕ) (cell : ℕ) where
   abbrev answer : Found
   answer = found_of (newest cell (sheets_of b))
 
-  pub newest-begun : every_sheet good (sheets_of b) ≡ true → NewestSoFar b cell (length b)
-  newest-begun g =
+  pub newest_begun : every_sheet good (sheets_of b) ≡ true → NewestSoFar b cell (length b)
+  newest_begun g =
       record {
         within = omega arith;
         all_good = ap (λ (l : List ℕ). every_sheet good (sheets_of l)) (take-length b) ∙ g;
@@ -108,8 +108,8 @@ module _ (b : List ℕ) (cell : ℕ) where
 
   module _ {place : ℕ} (so : NewestSoFar b cell place) where
     -- a step back from there need not test the sheet
-    pub newest-known : 0 < place → good (last_sheet (take place b)) ≡ true
-    newest-known h =
+    pub newest_known : 0 < place → good (last_sheet (take place b)) ≡ true
+    newest_known h =
         let long : length (take place b) ≡ place = length-take-le place b so.within in
         let cut = sheets_cut (take place b) (omega (arith, long)) in
         (and_split (good (last_sheet (take place b))) (every_sheet good (sheets_of (before (take place b)))) (sym (ap (every_sheet good) cut) ∙ so.all_good)).0
@@ -123,30 +123,30 @@ module _ (b : List ℕ) (cell : ℕ) where
         by_test false t =
             let some = eqb-false (length (take place b)) 0 t in
             let long : length (take place b) ≡ place = length-take-le place b so.within in
-            absurd (false≢true (sym (stepped-none b place r is e so.within) ∙ newest-known so (omega (arith, long))))
+            absurd (false≢true (sym (stepped_none b place r is e so.within) ∙ newest_known so (omega (arith, long))))
 
-    pub newest-none : r ≡ back.None → found.Blank ≡ answer
+    pub newest_none : r ≡ back.None → found.Blank ≡ answer
     unfolding newest
-    newest-none e = rw (so.passed, none_left e)
+    newest_none e = rw (so.passed, none_left e)
 
     module _ (start end : ℕ) (n : Numbers) (e : r ≡ back.Sheet start end n) where
       step : Stepped b place start end n
       step = stepped b place r is start end n e
 
-      pub newest-part-start : start ≤ end
-      newest-part-start = omega (arith, step.starts, step.ends)
+      pub newest_part_start : start ≤ end
+      newest_part_start = omega (arith, step.starts, step.ends)
 
-      pub newest-part-end : end ≤ length b
-      newest-part-end = omega (arith, step.within, step.ends)
+      pub newest_part_end : end ≤ length b
+      newest_part_end = omega (arith, step.within, step.ends)
 
-      pub newest-less : start < place
-      newest-less = omega (arith, step.starts)
+      pub newest_less : start < place
+      newest_less = omega (arith, step.starts)
 
       part : part_of b start end ≡ part_of b start place
       part = ap (part_of b start) step.ends
 
-      pub newest-room : 6 * n.entries + 12 ≤ length (part_of b start end)
-      newest-room =
+      pub newest_room : 6 * n.entries + 12 ≤ length (part_of b start end)
+      newest_room =
           let many : n.entries ≡ (numbers_in (part_of b start place)).entries = ap (λ (x : Numbers). x.entries) step.numbers_are in
           let long : length (part_of b start end) ≡ length (part_of b start place) = ap length part in
           omega (arith, many, long, good_length (part_of b start place) step.is_good)
@@ -155,9 +155,9 @@ module _ (b : List ℕ) (cell : ℕ) where
         has : Option Entry
         has = entry_on cell (entries_in (part_of b start place))
 
-        looked-at : h ≡ hit_of has
+        looked_at : h ≡ hit_of has
         unfolding has
-        looked-at =
+        looked_at =
             looked
             ∙ ap (λ (l : List ℕ). hit_of (entry_on cell (entries_of n.entries l))) part
             ∙ ap (λ (x : Numbers). hit_of (entry_on cell (entries_of x.entries (part_of b start place)))) step.numbers_are
@@ -166,7 +166,7 @@ module _ (b : List ℕ) (cell : ℕ) where
         unfolding newest has
         goes_on =
             so.passed
-            ∙ rw step.sheets-are
+            ∙ rw step.sheets_are
             (ap (λ (x : Numbers). or_older (entry_on cell (entries_in (part_of b start place))) x.turn (newest cell (sheets_of (take start b)))) (sym step.numbers_are))
 
         is_none : h ≡ hit.None → has ≡ none
@@ -175,7 +175,7 @@ module _ (b : List ℕ) (cell : ℕ) where
             by_case : (o : Option Entry) → has ≡ o → has ≡ none
             by_case none p = p
             by_case (some x) p =
-                let same : hit.None ≡ hit.Entry x = sym e ∙ looked-at ∙ ap hit_of p in
+                let same : hit.None ≡ hit.Entry x = sym e ∙ looked_at ∙ ap hit_of p in
                 let z : ◌≡◌ {A = ℕ} 0 1 = cc in
                 absurd (omega arith)
 
@@ -184,26 +184,26 @@ module _ (b : List ℕ) (cell : ℕ) where
           where
             by_case : (o : Option Entry) → has ≡ o → has ≡ some x
             by_case none p =
-                let same : hit.Entry x ≡ hit.None = sym e ∙ looked-at ∙ ap hit_of p in
+                let same : hit.Entry x ≡ hit.None = sym e ∙ looked_at ∙ ap hit_of p in
                 let z : ◌≡◌ {A = ℕ} 0 1 = cc in
                 absurd (omega arith)
             by_case (some y) p =
-                let same : hit.Entry x ≡ hit.Entry y = sym e ∙ looked-at ∙ ap hit_of p in
+                let same : hit.Entry x ≡ hit.Entry y = sym e ∙ looked_at ∙ ap hit_of p in
                 let it : y ≡ x = cc in
                 p ∙ ap some it
 
-        pub newest-found : (x : Entry) → h ≡ hit.Entry x → (c : Content) → c ≡ content_in x → found.Entry c n.turn ≡ answer
-        newest-found x e c content =
+        pub newest_found : (x : Entry) → h ≡ hit.Entry x → (c : Content) → c ≡ content_in x → found.Entry c n.turn ≡ answer
+        newest_found x e c content =
             let older = newest cell (sheets_of (take start b)) in
             ap (λ (y : Content). found.Entry y n.turn) content
             ∙ sym (ap found_of (goes_on ∙ ap (λ (o : Option Entry). or_older o n.turn older) (is_some x e)))
 
-        pub newest-turned : h ≡ hit.None → NewestSoFar b cell start
-        newest-turned e =
+        pub newest_turned : h ≡ hit.None → NewestSoFar b cell start
+        newest_turned e =
             record {
               within = omega (arith, step.starts, step.within);
-              all_good = (and_split (good (part_of b start place)) (every_sheet good (sheets_of (take start b))) (sym (ap (every_sheet good) step.sheets-are) ∙ so.all_good)).1;
+              all_good = (and_split (good (part_of b start place)) (every_sheet good (sheets_of (take start b))) (sym (ap (every_sheet good) step.sheets_are) ∙ so.all_good)).1;
               passed = goes_on ∙ rw (is_none e);
             }
 
-pub ruleset newests = (newest-begun, newest-known, newest-none, newest-part-start, newest-part-end, newest-less, newest-room, newest-found, newest-turned)
+pub ruleset newests = (newest_begun, newest_known, newest_none, newest_part_start, newest_part_end, newest_less, newest_room, newest_found, newest_turned)

@@ -21,20 +21,20 @@ use Rattle.book.specs.Sheets.{last_start, last_sheet, before, sheets_back, sheet
 -- ---- cutting
 
 module _ (b : List ℕ) where
-  pub start-within : last_start b ≤ length b
-  start-within = omega arith
+  pub start_within : last_start b ≤ length b
+  start_within = omega arith
 
   pub before_long : length (before b) ≡ last_start b
-  before_long = length-take-le (last_start b) b start-within
+  before_long = length-take-le (last_start b) b start_within
 
   empty_back : (k : ℕ) → length b ≡ 0 → sheets_back k b ≡ []
   unfolding sheets_back
   empty_back zero e = refl
   empty_back (suc k) e = rw (eq-eqb (length b) 0 e)
 
-  cut-back : (k : ℕ) → 0 < length b → sheets_back (suc k) b ≡ last_sheet b ∷ sheets_back k (before b)
+  cut_back : (k : ℕ) → 0 < length b → sheets_back (suc k) b ≡ last_sheet b ∷ sheets_back k (before b)
   unfolding sheets_back
-  cut-back k h = rw (ne_eqb (length b) 0 (λ e. omega arith))
+  cut_back k h = rw (ne_eqb (length b) 0 (λ e. omega arith))
 
   one_more : (j k : ℕ) → (0 < length b → sheets_back j (before b) ≡ sheets_back k (before b)) → sheets_back (suc j) b ≡ sheets_back (suc k) b
   one_more j k rest = by_test (eqb (length b) 0) refl
@@ -44,7 +44,7 @@ module _ (b : List ℕ) where
       by_test false e =
           let none = eqb-false (length b) 0 e in
           let some : 0 < length b = omega arith in
-          cut-back j some ∙ ap (λ (ss : List (List ℕ)). last_sheet b ∷ ss) (rest some) ∙ sym (cut-back k some)
+          cut_back j some ∙ ap (λ (ss : List (List ℕ)). last_sheet b ∷ ss) (rest some) ∙ sym (cut_back k some)
 
 -- how many are asked for does not matter, if they are enough
 enough : (j k : ℕ) (b : List ℕ) → length b ≤ j → length b ≤ k → sheets_back j b ≡ sheets_back k b
@@ -62,27 +62,27 @@ module _ (b : List ℕ) where
   unfolding sheets_of
   sheets_cut h =
       enough (length b) (suc (length b)) b (omega arith) (omega arith)
-      ∙ cut-back b (length b) h
+      ∙ cut_back b (length b) h
       ∙ ap (λ (ss : List (List ℕ)). last_sheet b ∷ ss) (enough (length b) (length (before b)) (before b) (omega (arith, before_long b)) (omega arith))
 
-few-back : (k : ℕ) (b : List ℕ) → length (sheets_back k b) ≤ k
+few_back : (k : ℕ) (b : List ℕ) → length (sheets_back k b) ≤ k
 unfolding sheets_back
-few-back zero b = omega arith
-few-back (suc k) b = by_test (few-back k (before b)) (eqb (length b) 0)
+few_back zero b = omega arith
+few_back (suc k) b = by_test (few_back k (before b)) (eqb (length b) 0)
   where
     by_test : length (sheets_back k (before b)) ≤ k → (t : Bool) → length (cond t [] (last_sheet b ∷ sheets_back k (before b))) ≤ suc k
     by_test few true = omega arith
     by_test few false = omega arith
 
-pub sheets-few : (b : List ℕ) → length (sheets_of b) ≤ length b
+pub sheets_few : (b : List ℕ) → length (sheets_of b) ≤ length b
 unfolding sheets_of
-sheets-few b = few-back (length b) b
+sheets_few b = few_back (length b) b
 
 -- ---- a good sheet behind bytes
 
 module _ (b s : List ℕ) (g : good s ≡ true) where
-  trailer-behind : trailer_in (b ++ s) ≡ trailer_in s
-  trailer-behind =
+  trailer_behind : trailer_in (b ++ s) ≡ trailer_in s
+  trailer_behind =
       let long = good_is_long s g in
       let at : length (b ++ s) - 12 ≡ length b + (length s - 12) = omega (arith, length-append b s) in
       ap trailer_of (ap (λ (i : ℕ). drop i (b ++ s)) at ∙ drop-append-add b s (length s - 12))
@@ -91,7 +91,7 @@ module _ (b s : List ℕ) (g : good s ≡ true) where
   start_behind =
       let fair = good_trailer_is_fair s g in
       let long = good_is_long s g in
-      let same : (trailer_in (b ++ s)).distance ≡ (trailer_in s).distance = ap (λ t. t.distance) trailer-behind in
+      let same : (trailer_in (b ++ s)).distance ≡ (trailer_in s).distance = ap (λ t. t.distance) trailer_behind in
       omega (arith, length-append b s, same, fair.distance_is_back)
 
   pub sheets_behind : sheets_of (b ++ s) ≡ s ∷ sheets_of b

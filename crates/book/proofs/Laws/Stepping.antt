@@ -31,15 +31,15 @@ use Rattle.book.specs.declared.Back.TheVariants as back
 use Rattle.book.specs.Sheets.{last_start, last_sheet, sheets_of}
 use Rattle.book.specs.Good.{numbers_in}
 use Rattle.book.specs.Stepping.{part_of, step_back}
-use Rattle.book.proofs.Laws.Sheets.{start-within, sheets_cut}
+use Rattle.book.proofs.Laws.Sheets.{start_within, sheets_cut}
 
 module _ (b : List ℕ) (place : ℕ) where
   abbrev up_to : List ℕ
   up_to = take place b
 
-  pub step-beyond : length b < place → back.None ≡ step_back b place
+  pub step_beyond : length b < place → back.None ≡ step_back b place
   unfolding step_back
-  step-beyond h = rw (lt-leb place (length b) h)
+  step_beyond h = rw (lt-leb place (length b) h)
 
   pub step_none : good (last_sheet up_to) ≡ false → back.None ≡ step_back b place
   unfolding step_back
@@ -51,15 +51,15 @@ module _ (b : List ℕ) (place : ℕ) where
 
     pub part_is : last_sheet up_to ≡ part_of b (last_start up_to) place
     part_is =
-        let whole : last_start up_to + (place - last_start up_to) ≡ place = omega (arith, start-within up_to, long) in
+        let whole : last_start up_to + (place - last_start up_to) ≡ place = omega (arith, start_within up_to, long) in
         ap (λ (i : ℕ). drop (last_start up_to) (take i b)) (sym whole) ∙ drop_take (last_start up_to) (place - last_start up_to) b
 
     pub step_sheet : good (last_sheet up_to) ≡ true → step_back b place ≡ back.Sheet (last_start up_to) place (numbers_in (last_sheet up_to))
     unfolding step_back
     step_sheet g = rw (le-leb place (length b) within, g)
 
-    pub step-short : place < 12 → back.None ≡ step_back b place
-    step-short h = step_none (too_short_is_bad (last_sheet up_to) (omega (arith, length-drop (last_start up_to) up_to, long)))
+    pub step_short : place < 12 → back.None ≡ step_back b place
+    step_short h = step_none (too_short_is_bad (last_sheet up_to) (omega (arith, length-drop (last_start up_to) up_to, long)))
 
     -- what the trailer up to the place says
     module _ (t : Trailer) (is : t ≡ trailer_at_end up_to) where
@@ -70,11 +70,11 @@ module _ (b : List ℕ) (place : ℕ) where
       start_is : 12 ≤ place → last_start up_to ≡ place - (t.distance + 12)
       start_is far = omega (arith, long, ap (λ (x : Trailer). x.distance) (reads far))
 
-      pub step-far : place < t.distance + 12 → back.None ≡ step_back b place
-      step-far h = by_length (leb 12 place) refl (good (last_sheet up_to)) refl
+      pub step_far : place < t.distance + 12 → back.None ≡ step_back b place
+      step_far h = by_length (leb 12 place) refl (good (last_sheet up_to)) refl
         where
           by_length : (f : Bool) → leb 12 place ≡ f → (g : Bool) → good (last_sheet up_to) ≡ g → back.None ≡ step_back b place
-          by_length false f g e = step-short (leb-false 12 place f)
+          by_length false f g e = step_short (leb-false 12 place f)
           by_length true f false e = step_none e
           by_length true f true e =
               let far = leb-true 12 place f in
@@ -94,39 +94,39 @@ module _ (b : List ℕ) (place : ℕ) where
         sheet_long = length-drop (last_start up_to) up_to ∙ omega (arith, start_is far, long)
 
         -- the sheet's trailer is the one up to the place
-        its-trailer : trailer_in (last_sheet up_to) ≡ t
-        its-trailer =
+        its_trailer : trailer_in (last_sheet up_to) ≡ t
+        its_trailer =
             let at : last_start up_to + (length (last_sheet up_to) - 12) ≡ length up_to - 12 = omega (arith, sheet_long, start_is far, long) in
             ap trailer_of (drop-drop (length (last_sheet up_to) - 12) (last_start up_to) up_to ∙ ap (λ (i : ℕ). drop i up_to) at)
             ∙ sym (reads far)
 
-        pub step-known : good (last_sheet up_to) ≡ true → (n : Numbers) → n ≡ numbers_of t → back.Sheet (place - (t.distance + 12)) place n ≡ step_back b place
-        step-known g n numbers =
+        pub step_known : good (last_sheet up_to) ≡ true → (n : Numbers) → n ≡ numbers_of t → back.Sheet (place - (t.distance + 12)) place n ≡ step_back b place
+        step_known g n numbers =
             ap (λ (i : ℕ). back.Sheet i place n) (sym (start_is far))
-            ∙ ap (λ (x : Numbers). back.Sheet (last_start up_to) place x) (numbers ∙ ap numbers_of (sym its-trailer))
+            ∙ ap (λ (x : Numbers). back.Sheet (last_start up_to) place x) (numbers ∙ ap numbers_of (sym its_trailer))
             ∙ sym (step_sheet g)
 
-        pub step-untested : (0 < place → good (last_sheet up_to) ≡ true) → (n : Numbers) → n ≡ numbers_of t → back.Sheet (place - (t.distance + 12)) place n ≡ step_back b place
-        step-untested g n numbers = step-known (g (omega arith)) n numbers
+        pub step_untested : (0 < place → good (last_sheet up_to) ≡ true) → (n : Numbers) → n ≡ numbers_of t → back.Sheet (place - (t.distance + 12)) place n ≡ step_back b place
+        step_untested g n numbers = step_known (g (omega arith)) n numbers
 
         module _ (r : Reading) (said : said_read (take (place - (place - (t.distance + 12))) (drop (place - (t.distance + 12)) b)) r ≡ reading_of (take (place - (place - (t.distance + 12))) (drop (place - (t.distance + 12)) b))) where
           is_said : said_read (last_sheet up_to) r ≡ reading_of (last_sheet up_to)
           is_said = subst (λ (s : List ℕ). said_read s r ≡ reading_of s) sheet_is said
 
-          pub step-good : (n : Numbers) → r ≡ reading.Good n → back.Sheet (place - (t.distance + 12)) place n ≡ step_back b place
-          step-good n e =
+          pub step_good : (n : Numbers) → r ≡ reading.Good n → back.Sheet (place - (t.distance + 12)) place n ≡ step_back b place
+          step_good n e =
               let found = said_good (last_sheet up_to) r n e is_said in
-              step-known found.0 n (found.1 ∙ ap numbers_of its-trailer)
+              step_known found.0 n (found.1 ∙ ap numbers_of its_trailer)
 
-          pub step-bad : (k : ℕ) → r ≡ reading.Refused k → back.None ≡ step_back b place
-          step-bad k e = step_none (said_bad (last_sheet up_to) r k e is_said)
+          pub step_bad : (k : ℕ) → r ≡ reading.Refused k → back.None ≡ step_back b place
+          step_bad k e = step_none (said_bad (last_sheet up_to) r k e is_said)
 
         -- the sheet is good exactly if its two parts are
         by_parts : good (last_sheet up_to) ≡ good_trailer t t.distance && good_entries t.cells (entries_of t.entries (last_sheet up_to))
         by_parts =
             let back_is : length (last_sheet up_to) - 12 ≡ t.distance = omega (arith, sheet_long) in
             good_is (last_sheet up_to) (omega (arith, sheet_long))
-            ∙ ap (λ (x : Trailer). good_trailer x (length (last_sheet up_to) - 12) && good_entries x.cells (entries_of x.entries (last_sheet up_to))) its-trailer
+            ∙ ap (λ (x : Trailer). good_trailer x (length (last_sheet up_to) - 12) && good_entries x.cells (entries_of x.entries (last_sheet up_to))) its_trailer
             ∙ ap (λ (k : ℕ). good_trailer t k && good_entries t.cells (entries_of t.entries (last_sheet up_to))) back_is
 
         module _ (g : Bool) (test : g ≡ good_trailer t t.distance) (on : not g ≡ false) (e : Bool) (tests : e ≡ good_entries_in (take (place - (place - (t.distance + 12))) (drop (place - (t.distance + 12)) b)) t.entries t.cells) where
@@ -141,20 +141,20 @@ module _ (b : List ℕ) (place : ℕ) where
               ∙ rw (sym test ∙ not-false g on)
               (sym (tests ∙ ap (λ (s : List ℕ). good_entries_in s t.entries t.cells) sheet_is ∙ rw (le-leb (6 * t.entries) (length (last_sheet up_to)) has_room)))
 
-          pub tested-entries : not e ≡ true → back.None ≡ step_back b place
-          tested-entries off = step_none (entries_are ∙ not-true e off)
+          pub tested_entries : not e ≡ true → back.None ≡ step_back b place
+          tested_entries off = step_none (entries_are ∙ not-true e off)
 
-          pub tested-good : not e ≡ false → (n : Numbers) → n ≡ numbers_of t → back.Sheet (place - (t.distance + 12)) place n ≡ step_back b place
-          tested-good yes-then n numbers = step-known (entries_are ∙ not-false e yes-then) n numbers
+          pub tested_good : not e ≡ false → (n : Numbers) → n ≡ numbers_of t → back.Sheet (place - (t.distance + 12)) place n ≡ step_back b place
+          tested_good yes_then n numbers = step_known (entries_are ∙ not-false e yes_then) n numbers
 
-      pub tested-trailer : (g : Bool) → g ≡ good_trailer t t.distance → not g ≡ true → back.None ≡ step_back b place
-      tested-trailer g test off = by_room (leb (t.distance + 12) place) refl
+      pub tested_trailer : (g : Bool) → g ≡ good_trailer t t.distance → not g ≡ true → back.None ≡ step_back b place
+      tested_trailer g test off = by_room (leb (t.distance + 12) place) refl
         where
           by_room : (f : Bool) → leb (t.distance + 12) place ≡ f → back.None ≡ step_back b place
-          by_room false f = step-far (leb-false (t.distance + 12) place f)
+          by_room false f = step_far (leb-false (t.distance + 12) place f)
           by_room true f = step_none (by_parts (leb-true (t.distance + 12) place f) ∙ rw (sym test ∙ not-true g off))
 
-pub ruleset steps = (step-beyond, step-short, step-far, tested-trailer, tested-entries, tested-good)
+pub ruleset steps = (step_beyond, step_short, step_far, tested_trailer, tested_entries, tested_good)
 
 -- ---- what a step tells
 
@@ -164,15 +164,15 @@ pub record Stepped (b : List ℕ) (place start end : ℕ) (n : Numbers) : Type 0
   pub starts : start + 12 ≤ place
   pub is_good : good (part_of b start place) ≡ true
   pub numbers_are : n ≡ numbers_in (part_of b start place)
-  pub sheets-are : sheets_of (take place b) ≡ part_of b start place ∷ sheets_of (take start b)
+  pub sheets_are : sheets_of (take place b) ≡ part_of b start place ∷ sheets_of (take start b)
 
 module _ (b : List ℕ) (place : ℕ) where
   abbrev reached : List ℕ
   reached = take place b
 
   -- a good last sheet up to a place
-  good-last : place ≤ length b → good (last_sheet reached) ≡ true → Stepped b place (last_start reached) place (numbers_in (last_sheet reached))
-  good-last within g =
+  good_last : place ≤ length b → good (last_sheet reached) ≡ true → Stepped b place (last_start reached) place (numbers_in (last_sheet reached))
+  good_last within g =
       let start = last_start reached in
       let same : last_sheet reached ≡ part_of b start place = part_is b place within in
       let size : length (last_sheet reached) ≡ length reached - start = length-drop start reached in
@@ -184,7 +184,7 @@ module _ (b : List ℕ) (place : ℕ) where
         starts = far;
         is_good = sym (ap good same) ∙ g;
         numbers_are = ap numbers_in same;
-        sheets-are =
+        sheets_are =
             sheets_cut reached (omega (arith, tall))
             ∙ ap (λ (s : List ℕ). s ∷ sheets_of (take start reached)) same
             ∙ ap (λ (l : List ℕ). part_of b start place ∷ sheets_of l) (take-take start place b (omega arith));
@@ -203,12 +203,12 @@ module _ (b : List ℕ) (place : ℕ) where
             let numbers : numbers_in (last_sheet reached) ≡ n = cc in
             subst (λ (x : ℕ). Stepped b place x end n) starts
             (subst (λ (x : ℕ). Stepped b place (last_start reached) x n) ends
-            (subst (λ (x : Numbers). Stepped b place (last_start reached) place x) numbers (good-last (leb-true place (length b) t) g)))
+            (subst (λ (x : Numbers). Stepped b place (last_start reached) place x) numbers (good_last (leb-true place (length b) t) g)))
         by_test true t false g = let none : back.Sheet start end n ≡ back.None = sym e ∙ is ∙ sym (step_none b place g) in let z : ◌≡◌ {A = ℕ} 0 1 = cc in absurd (omega arith)
-        by_test false t g x = let none : back.Sheet start end n ≡ back.None = sym e ∙ is ∙ sym (step-beyond b place (leb-false place (length b) t)) in let z : ◌≡◌ {A = ℕ} 0 1 = cc in absurd (omega arith)
+        by_test false t g x = let none : back.Sheet start end n ≡ back.None = sym e ∙ is ∙ sym (step_beyond b place (leb-false place (length b) t)) in let z : ◌≡◌ {A = ℕ} 0 1 = cc in absurd (omega arith)
 
-    pub stepped-none : r ≡ back.None → place ≤ length b → good (last_sheet reached) ≡ false
-    stepped-none e within = by_test (good (last_sheet reached)) refl
+    pub stepped_none : r ≡ back.None → place ≤ length b → good (last_sheet reached) ≡ false
+    stepped_none e within = by_test (good (last_sheet reached)) refl
       where
         by_test : (g : Bool) → good (last_sheet reached) ≡ g → good (last_sheet reached) ≡ false
         by_test false g = g

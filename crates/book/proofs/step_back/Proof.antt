@@ -4,7 +4,7 @@
 use borrow.Author.Rules.{rules}
 use mathlib.Core.Path.{sym}
 use lib.Seq.{length-take-le}
-use Rattle.book.proofs.Laws.Stepping.{steps, step-good, step-bad}
+use Rattle.book.proofs.Laws.Stepping.{steps, step_good, step_bad}
 use Rattle.book.proofs.step_back.Statement.{statement}
 use Rattle.book.proofs.step_back.Tie as tie
 
@@ -45,10 +45,10 @@ enum_told : tie.Need-enum-told
 enum_told c = search rules
 
 returns-3 : tie.Need-returns-3
-returns-3 c = step-good _ _ (search rules) _ c.before.before.before.before.before.before.before.trailer-of.ensures (search rules) _ c.before.before.before.read.ensures _ c.before.numbers.given.1
+returns-3 c = step_good _ _ (search rules) _ c.before.before.before.before.before.before.before.trailer-of.ensures (search rules) _ c.before.before.before.read.ensures _ c.before.numbers.given.1
 
 returns-4 : tie.Need-returns-4
-returns-4 c = step-bad _ _ (search rules) _ c.before.before.before.before.before.before.trailer-of.ensures (search rules) _ c.before.before.read.ensures _ c.enum_told.given.1
+returns-4 c = step_bad _ _ (search rules) _ c.before.before.before.before.before.before.trailer-of.ensures (search rules) _ c.before.before.read.ensures _ c.enum_told.given.1
 
 pub step-back-spec : {M : Type 1} → statement M
 step-back-spec =

@@ -90,7 +90,7 @@ module _ (d : Desk) where
     pub sheet_good : good s ≡ true
     pub same_desks : (trailer_in s).desks ≡ d.head.n
     pub same_cells : (trailer_in s).cells ≡ d.head.m
-    pub other-sender : (trailer_in s).sender ≢ d.head.own
+    pub other_sender : (trailer_in s).sender ≢ d.head.own
     pub due : d.head.turn ≤ (trailer_in s).turn
     pub near : (trailer_in s).turn < d.head.turn + d.head.n
     pub place_free : free tray (trailer_in s).sender ≡ true

@@ -32,8 +32,8 @@ use Rattle.desk.specs.declared.Answer as declared
 use Rattle.desk.specs.declared.Answer.TheVariants as answers
 use Rattle.desk.specs.Answers.{Value, sent, held, outcome}
 use Rattle.desk.specs.Calls.{sound, send_rules, next_head, sent_desk, send_of, deliver_rules, deliver_of}
-use Rattle.desk.specs.Parts.{given, heldIf}
-use Rattle.desk.proofs.Laws.Writes.{call-carried-out, call-refused}
+use Rattle.desk.specs.Parts.{given, held_if}
+use Rattle.desk.proofs.Laws.Writes.{call_carried_out, call_refused}
 
 -- ---- send
 
@@ -47,33 +47,33 @@ module _ (d : Desk) (buf : List ℕ) where
   value : Value
   value = sent d.head.turn (length (pending_entries d.pkind d.pday))
 
-  early-numbered : Numbered early
+  early_numbered : Numbered early
   unfolding early
-  early-numbered = send_numbered (sound d) d.head
+  early_numbered = send_numbered (sound d) d.head
 
-  all-numbered : Numbered (send_rules d buf)
+  all_numbered : Numbered (send_rules d buf)
   unfolding early
-  all-numbered = numbered_both early (room_rules (sheet_of d.head d.pkind d.pday) buf) early-numbered (omega arith, tt)
+  all_numbered = numbered_both early (room_rules (sheet_of d.head d.pkind d.pday) buf) early_numbered (omega arith, tt)
 
   module _ {ok : Bool} {number : ℕ} (n : number ≡ first_number (send_tests ok d.head)) (s : ok ≡ sound d) where
-    early-is : first_number early ≡ number
+    early_is : first_number early ≡ number
     unfolding early
-    early-is = sym (n ∙ rw s)
+    early_is = sym (n ∙ rw s)
 
-    pub send-refused : (number ≡ 0 → ⊥) → outcome (record { answer = answers.Refused number; desk = d }) buf ≡ send_of d buf
+    pub send_refused : (number ≡ 0 → ⊥) → outcome (record { answer = answers.Refused number; desk = d }) buf ≡ send_of d buf
     unfolding send_of early sheet value
-    send-refused h =
-        call-refused (send_rules d buf) d buf value (sent_desk d) (sheet ++ drop (length sheet) buf) number
-        (first_of_both early (room_rules sheet buf) number early-is h) h
+    send_refused h =
+        call_refused (send_rules d buf) d buf value (sent_desk d) (sheet ++ drop (length sheet) buf) number
+        (first_of_both early (room_rules sheet buf) number early_is h) h
 
     module _ (z : number ≡ 0) where
       rest_is : first_number (send_rules d buf) ≡ first_number (room_rules sheet buf)
       unfolding early sheet
-      rest_is = second_of_both early (room_rules sheet buf) early-numbered (early-is ∙ z)
+      rest_is = second_of_both early (room_rules sheet buf) early_numbered (early_is ∙ z)
 
       pub send_turn : d.head.turn ≡ 4294967295 → ⊥
       unfolding early
-      send_turn = eqb-false d.head.turn last_turn (silent_if_0 early early-numbered (early-is ∙ z)).1.1.0
+      send_turn = eqb-false d.head.turn last_turn (silent_if_0 early early_numbered (early_is ∙ z)).1.1.0
 
       module _ {r : Sent} {after : List ℕ} (w : Sends d.head d.pkind d.pday buf r after) where
         pub send_short : (k : ℕ) → r ≡ sends.Refused k → outcome (record { answer = answers.Refused k; desk = d }) after ≡ send_of d buf
@@ -81,7 +81,7 @@ module _ (d : Desk) (buf : List ℕ) where
         send_short k e =
             let first = refused_only_if (room_rules sheet buf) (length (pending_entries d.pkind d.pday)) k (sym w.answers ∙ ap said_sent e) in
             rw (w.buffer ∙ unchanged_if buf (sheet ++ drop (length sheet) buf) first)
-            (call-refused (send_rules d buf) d buf value (sent_desk d) (sheet ++ drop (length sheet) buf) k (rest_is ∙ number_of_first first) (first_is_some (omega arith, tt) first))
+            (call_refused (send_rules d buf) d buf value (sent_desk d) (sheet ++ drop (length sheet) buf) k (rest_is ∙ number_of_first first) (first_is_some (omega arith, tt) first))
 
         pub send_whole : (n : ℕ) → r ≡ sends.Entries n → {h : Head} → h ≡ next_head d.head d.head.wait
             → outcome (record { answer = answers.Sent d.head.turn n; desk = record { head = h; kind = d.kind; day = d.day; pkind = replicate 64 0; pday = replicate 64 (pos 0) } }) after ≡ send_of d buf
@@ -89,14 +89,14 @@ module _ (d : Desk) (buf : List ℕ) where
         send_whole n e h =
             let carried_out = answered_only_if (room_rules sheet buf) (length (pending_entries d.pkind d.pday)) n (sym w.answers ∙ ap said_sent e) in
             rw (h, w.buffer ∙ changed_if (room_rules sheet buf) buf (sheet ++ drop (length sheet) buf) carried_out.0, ← carried_out.1)
-            (call-carried-out (send_rules d buf) all-numbered d buf value (sent_desk d) (sheet ++ drop (length sheet) buf) (rest_is ∙ number_of_silent (room_rules sheet buf) carried_out.0))
+            (call_carried_out (send_rules d buf) all_numbered d buf value (sent_desk d) (sheet ++ drop (length sheet) buf) (rest_is ∙ number_of_silent (room_rules sheet buf) carried_out.0))
 
-pub ruleset sendings = (send-refused, send_turn, send_short, send_whole)
+pub ruleset sendings = (send_refused, send_turn, send_short, send_whole)
 
 -- ---- deliver
 
-refused-same : (j k : ℕ) → ◌≡◌ {A = Answer sheets.Sheet} (refused j) (refused k) → j ≡ k
-refused-same j k e = cc
+refused_same : (j k : ℕ) → ◌≡◌ {A = Answer sheets.Sheet} (refused j) (refused k) → j ≡ k
+refused_same j k e = cc
 
 module _ (d : Desk) (tray s : List ℕ) where
   first_two : List Rule
@@ -107,66 +107,66 @@ module _ (d : Desk) (tray s : List ℕ) where
   two_numbered = tray_numbered (sound d) d.head (length tray)
 
   -- those of a good sheet
-  of-sheet : List Rule
-  of-sheet = let x = numbers_of (trailer_in s) in sheet_tests d.head x (free tray x.sender)
+  of_sheet : List Rule
+  of_sheet = let x = numbers_of (trailer_in s) in sheet_tests d.head x (free tray x.sender)
 
-  deliver-numbered : Numbered (deliver_rules d tray s)
-  unfolding first_two of-sheet
-  deliver-numbered =
+  deliver_numbered : Numbered (deliver_rules d tray s)
+  unfolding first_two of_sheet
+  deliver_numbered =
       let x = numbers_of (trailer_in s) in
-      numbered_both first_two (13 if not (good s) ∷ of-sheet) two_numbered (omega arith, sheet_numbered d.head x (free tray x.sender))
+      numbered_both first_two (13 if not (good s) ∷ of_sheet) two_numbered (omega arith, sheet_numbered d.head x (free tray x.sender))
 
   after : List ℕ
   after = held_in tray (trailer_in s).sender s
 
   module _ {ok : Bool} {number : ℕ} (n : number ≡ first_number (tray_tests ok d.head (length tray))) (is : ok ≡ sound d) where
-    two-are : first_number first_two ≡ number
+    two_are : first_number first_two ≡ number
     unfolding first_two
-    two-are = sym (n ∙ rw is)
+    two_are = sym (n ∙ rw is)
 
-    pub deliver-refused : (number ≡ 0 → ⊥) → outcome (record { answer = answers.Refused number; desk = d }) tray ≡ deliver_of d tray s
-    unfolding deliver_of first_two of-sheet after
-    deliver-refused h =
-        call-refused (deliver_rules d tray s) d tray held d after number (first_of_both first_two (13 if not (good s) ∷ of-sheet) number two-are h) h
+    pub deliver_refused : (number ≡ 0 → ⊥) → outcome (record { answer = answers.Refused number; desk = d }) tray ≡ deliver_of d tray s
+    unfolding deliver_of first_two of_sheet after
+    deliver_refused h =
+        call_refused (deliver_rules d tray s) d tray held d after number (first_of_both first_two (13 if not (good s) ∷ of_sheet) number two_are h) h
 
-    then-sheet : number ≡ 0 → first_number (deliver_rules d tray s) ≡ first_number (13 if not (good s) ∷ of-sheet)
-    unfolding first_two of-sheet
-    then-sheet z = second_of_both first_two (13 if not (good s) ∷ of-sheet) two_numbered (two-are ∙ z)
+    then_sheet : number ≡ 0 → first_number (deliver_rules d tray s) ≡ first_number (13 if not (good s) ∷ of_sheet)
+    unfolding first_two of_sheet
+    then_sheet z = second_of_both first_two (13 if not (good s) ∷ of_sheet) two_numbered (two_are ∙ z)
 
     module _ (z : number ≡ 0) (r : Reading) (reads : sheets.said_read s r ≡ sheets.reading_of s) where
       pub deliver_bad : (k : ℕ) → r ≡ reading.Refused k → outcome (record { answer = answers.Refused k; desk = d }) tray ≡ deliver_of d tray s
-      unfolding first_number deliver_of of-sheet after
+      unfolding first_number deliver_of of_sheet after
       deliver_bad k e =
           let g : good s ≡ false = said_bad s r k e reads in
-          let thirteen : k ≡ 13 = refused-same k 13 (sym (ap (sheets.said_read s) e) ∙ reads ∙ bad_read s g) in
-          let same : first_number (deliver_rules d tray s) ≡ k = then-sheet z ∙ rw g (sym thirteen) in
+          let thirteen : k ≡ 13 = refused_same k 13 (sym (ap (sheets.said_read s) e) ∙ reads ∙ bad_read s g) in
+          let same : first_number (deliver_rules d tray s) ≡ k = then_sheet z ∙ rw g (sym thirteen) in
           let some : k ≡ 0 → ⊥ = λ zero. omega (arith, thirteen, zero) in
-          call-refused (deliver_rules d tray s) d tray held d after k same some
+          call_refused (deliver_rules d tray s) d tray held d after k same some
 
       module _ (x : Numbers) (e : r ≡ reading.Good x) {f : Bool} (fr : f ≡ free tray x.sender) {k : ℕ} (m : k ≡ first_number (sheet_tests d.head x f)) where
         is_good : (good s ≡ true) × (x ≡ numbers_of (trailer_in s))
         is_good = said_good s r x e reads
 
         sheet_is : first_number (deliver_rules d tray s) ≡ k
-        unfolding first_number of-sheet
-        sheet_is = then-sheet z ∙ rw is_good.0 (sym (m ∙ rw (fr, is_good.1)))
+        unfolding first_number of_sheet
+        sheet_is = then_sheet z ∙ rw is_good.0 (sym (m ∙ rw (fr, is_good.1)))
 
-        made : (t : Bool) → eqb k 0 ≡ t → outcome (record { answer = given k answers.Held; desk = d }) (heldIf (eqb k 0) tray x.sender s) ≡ deliver_of d tray s
-        unfolding deliver_of given heldIf after
-        made true p = rw (p, is_good.1) (call-carried-out (deliver_rules d tray s) deliver-numbered d tray held d after (sheet_is ∙ eqb-true k 0 p))
-        made false p = rw p (call-refused (deliver_rules d tray s) d tray held d after k sheet_is (eqb-false k 0 p))
+        made : (t : Bool) → eqb k 0 ≡ t → outcome (record { answer = given k answers.Held; desk = d }) (held_if (eqb k 0) tray x.sender s) ≡ deliver_of d tray s
+        unfolding deliver_of given held_if after
+        made true p = rw (p, is_good.1) (call_carried_out (deliver_rules d tray s) deliver_numbered d tray held d after (sheet_is ∙ eqb-true k 0 p))
+        made false p = rw p (call_refused (deliver_rules d tray s) d tray held d after k sheet_is (eqb-false k 0 p))
 
-        pub deliver-so : {a : declared.Answer} {tray' : List ℕ} → a ≡ given k answers.Held → tray' ≡ heldIf (eqb k 0) tray x.sender s
+        pub deliver_so : {a : declared.Answer} {tray' : List ℕ} → a ≡ given k answers.Held → tray' ≡ held_if (eqb k 0) tray x.sender s
             → outcome (record { answer = a; desk = d }) tray' ≡ deliver_of d tray s
-        deliver-so a t = rw (a, t) (made (eqb k 0) refl)
+        deliver_so a t = rw (a, t) (made (eqb k 0) refl)
 
-pub ruleset deliveries = (deliver-refused, deliver_bad, deliver-so)
+pub ruleset deliveries = (deliver_refused, deliver_bad, deliver_so)
 
 module _ (tray : List ℕ) (q : ℕ) (s : List ℕ) {on : Bool} where
-  pub held_on : {tray' : List ℕ} → tray' ≡ held_in tray q s → on ≡ true → tray' ≡ heldIf on tray q s
-  unfolding heldIf
+  pub held_on : {tray' : List ℕ} → tray' ≡ held_in tray q s → on ≡ true → tray' ≡ held_if on tray q s
+  unfolding held_if
   held_on e p = rw p e
 
-  pub held-off : on ≡ false → tray ≡ heldIf on tray q s
-  unfolding heldIf
-  held-off p = rw p
+  pub held_off : on ≡ false → tray ≡ held_if on tray q s
+  unfolding held_if
+  held_off p = rw p

@@ -17,52 +17,52 @@ use Rattle.sound.specs.declared.Head.{Head}
 use Rattle.sound.specs.Head.{own_turn}
 use Rattle.desk.specs.declared.Desk.{Desk}
 use Rattle.desk.specs.Calls.{must_wait, next_head, read_ends}
-use Rattle.desk.specs.Parts.{waits_for, waitAt}
+use Rattle.desk.specs.Parts.{waits_for, wait_at}
 
 module _ (on : Bool) (h : Head) (pkind : List ℕ) (cell : ℕ) where
-  pub waits-refused : not on ≡ true → false ≡ (on && waits_for h pkind cell)
-  waits-refused e = rw (not-true on e)
+  pub waits_refused : not on ≡ true → false ≡ (on && waits_for h pkind cell)
+  waits_refused e = rw (not-true on e)
 
-  pub waits-other-mode : not on ≡ false → (h.mode ≡ 1 → ⊥) → false ≡ (on && waits_for h pkind cell)
+  pub waits_other_mode : not on ≡ false → (h.mode ≡ 1 → ⊥) → false ≡ (on && waits_for h pkind cell)
   unfolding waits_for
-  waits-other-mode e m = rw (not-false on e, ne_eqb h.mode 1 m)
+  waits_other_mode e m = rw (not-false on e, ne_eqb h.mode 1 m)
 
   module _ {kind : ℕ} (k : kind ≡ kind_at pkind cell) (e : not on ≡ false) (m : h.mode ≡ 1) where
-    pub waits-pending : (kind ≡ 0 → ⊥) → false ≡ (on && waits_for h pkind cell)
+    pub waits_pending : (kind ≡ 0 → ⊥) → false ≡ (on && waits_for h pkind cell)
     unfolding waits_for
-    waits-pending p = rw (not-false on e, ← k, ne_eqb kind 0 p, and-false (eqb h.mode 1 && anywhere 64 (filled pkind)))
+    waits_pending p = rw (not-false on e, ← k, ne_eqb kind 0 p, and-false (eqb h.mode 1 && anywhere 64 (filled pkind)))
 
     module _ {own : Bool} (o : own ≡ own_turn h) (b : kind ≡ 0) where
-      pub waits-own-turn : own ≡ true → false ≡ (on && waits_for h pkind cell)
+      pub waits_own_turn : own ≡ true → false ≡ (on && waits_for h pkind cell)
       unfolding waits_for
-      waits-own-turn p = rw (not-false on e, ← o, p, and-false ((eqb h.mode 1 && anywhere 64 (filled pkind)) && eqb (kind_at pkind cell) 0))
+      waits_own_turn p = rw (not-false on e, ← o, p, and-false ((eqb h.mode 1 && anywhere 64 (filled pkind)) && eqb (kind_at pkind cell) 0))
 
-      pub waits-if-any : {any : Bool} → any ≡ anywhere 64 (filled pkind) → own ≡ false → any ≡ (on && waits_for h pkind cell)
+      pub waits_if_any : {any : Bool} → any ≡ anywhere 64 (filled pkind) → own ≡ false → any ≡ (on && waits_for h pkind cell)
       unfolding waits_for
-      waits-if-any a p = rw (not-false on e, ← o, p, eq-eqb h.mode 1 m, ← k, eq-eqb kind 0 b, and-true (anywhere 64 (filled pkind)), and-true (anywhere 64 (filled pkind))) a
+      waits_if_any a p = rw (not-false on e, ← o, p, eq-eqb h.mode 1 m, ← k, eq-eqb kind 0 b, and-true (anywhere 64 (filled pkind)), and-true (anywhere 64 (filled pkind))) a
 
-pub ruleset waitings = (waits-refused, waits-other-mode, waits-pending, waits-own-turn, waits-if-any)
+pub ruleset waitings = (waits_refused, waits_other_mode, waits_pending, waits_own_turn, waits_if_any)
 
-pub waits-are : (d : Desk) (cell : ℕ) → waits_for d.head d.pkind cell ≡ must_wait d cell
+pub waits_are : (d : Desk) (cell : ℕ) → waits_for d.head d.pkind cell ≡ must_wait d cell
 unfolding waits_for must_wait
-waits-are d cell = refl
+waits_are d cell = refl
 
 -- ---- where a read begins to wait
 
 module _ (wait cell : ℕ) {waits : Bool} where
-  pub wait-here : waits ≡ true → cell < 64 → cell + 1 ≡ waitAt waits wait cell
-  unfolding waitAt
-  wait-here e h = rw (e, lt-ltb cell 64 h)
+  pub wait_here : waits ≡ true → cell < 64 → cell + 1 ≡ wait_at waits wait cell
+  unfolding wait_at
+  wait_here e h = rw (e, lt-ltb cell 64 h)
 
-  pub wait-nowhere : waits ≡ true → 64 ≤ cell → wait ≡ waitAt waits wait cell
-  unfolding waitAt
-  wait-nowhere e h = rw (e, le-ltb cell 64 h)
+  pub wait_nowhere : waits ≡ true → 64 ≤ cell → wait ≡ wait_at waits wait cell
+  unfolding wait_at
+  wait_nowhere e h = rw (e, le-ltb cell 64 h)
 
-  pub wait-stays : waits ≡ false → wait ≡ waitAt waits wait cell
-  unfolding waitAt
-  wait-stays e = rw e
+  pub wait_stays : waits ≡ false → wait ≡ wait_at waits wait cell
+  unfolding wait_at
+  wait_stays e = rw e
 
-pub ruleset waits_at = (wait-here, wait-nowhere, wait-stays)
+pub ruleset waits_at = (wait_here, wait_nowhere, wait_stays)
 
 -- ---- whether a read ends
 

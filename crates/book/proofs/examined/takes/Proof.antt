@@ -1,7 +1,7 @@
 -- `takes` meets its contract, by the cases of what a pass finds.
 -- Assumes nothing.
 use borrow.Author.Rules.{rules}
-use Rattle.book.proofs.Laws.Examining.{takes-known}
+use Rattle.book.proofs.Laws.Examining.{takes_known}
 use Rattle.book.proofs.examined.takes.Statement.{statement}
 use Rattle.book.proofs.examined.takes.Tie as tie
 
@@ -24,7 +24,7 @@ returns-2 : tie.Need-returns-2
 returns-2 c = search rules
 
 returns-3 : tie.Need-returns-3
-returns-3 c = search (takes-known, rules)
+returns-3 c = search (takes_known, rules)
 
 pub takes-spec : {M : Type 1} → statement M
 takes-spec =

@@ -1,9 +1,9 @@
--- `known_back` meets its contract: the sheet is known to be good (`step-untested`).
+-- `known_back` meets its contract: the sheet is known to be good (`step_untested`).
 -- Assumes nothing.
 use borrow.Author.Rules.{rules}
 use mathlib.Core.Path.{sym}
 use lib.Seq.{length-take-le}
-use Rattle.book.proofs.Laws.Stepping.{steps, step-untested}
+use Rattle.book.proofs.Laws.Stepping.{steps, step_untested}
 use Rattle.book.proofs.inside.known_back.Statement.{statement}
 use Rattle.book.proofs.inside.known_back.Tie as tie
 
@@ -29,7 +29,7 @@ numbers-requires : tie.Need-numbers-requires
 numbers-requires c κs = search rules
 
 returns-3 : tie.Need-returns-3
-returns-3 c = search (step-untested, rules)
+returns-3 c = search (step_untested, rules)
 
 pub known-back-spec : {M : Type 1} → statement M
 known-back-spec =

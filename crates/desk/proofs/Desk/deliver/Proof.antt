@@ -1,7 +1,7 @@
 -- `deliver` meets its contract: each return is one of the laws `deliveries`. What `search` does not reach is named by the call that gives it.
 -- Assumes nothing.
 use borrow.Author.Rules.{rules}
-use Rattle.desk.proofs.Laws.Sends.{deliver_bad, deliver-so, deliveries}
+use Rattle.desk.proofs.Laws.Sends.{deliver_bad, deliver_so, deliveries}
 use Rattle.desk.proofs.Desk.deliver.Statement.{statement}
 use Rattle.desk.proofs.Desk.deliver.Tie as tie
 
@@ -51,7 +51,7 @@ returns-3 c =
     let allowed : tie.Else1 = search in
     let number : tie.After-tray-number = search in
     let sound : tie.After-is-sound = search in
-    deliver-so _ _ _ number.tray-number.ensures sound.is_sound.ensures allowed.if1.left _ read.read.ensures _ good.x.given.1
+    deliver_so _ _ _ number.tray-number.ensures sound.is_sound.ensures allowed.if1.left _ read.read.ensures _ good.x.given.1
     free.is_free.ensures sheet.sheet-number.ensures c.given-if.ensures hold.hold-if.ensures
 
 pub deliver-spec : {M : Type 1} → statement M

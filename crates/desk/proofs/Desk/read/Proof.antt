@@ -1,4 +1,4 @@
--- `read` meets its contract: it is straight-line code, and `read-so` says what it makes.
+-- `read` meets its contract: it is straight-line code, and `read_so` says what it makes.
 -- Assumes nothing.
 use borrow.Author.Rules.{rules}
 use Rattle.desk.proofs.Laws.Writes.{makings}

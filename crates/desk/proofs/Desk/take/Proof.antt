@@ -1,7 +1,7 @@
 -- `take` meets its contract: each return is one of the laws of Laws/Takes.antt. What `search` does not reach is named by the call that gives it.
 -- Assumes nothing.
 use borrow.Author.Rules.{rules}
-use Rattle.desk.proofs.Laws.Takes.{takings, take-not-there, took}
+use Rattle.desk.proofs.Laws.Takes.{takings, take_not_there, took}
 use Rattle.desk.proofs.Desk.take.Statement.{statement}
 use Rattle.desk.proofs.Desk.take.Tie as tie
 
@@ -33,7 +33,7 @@ returns-2 c =
     let allowed : tie.Else1 = search in
     let number : tie.After-take-number = search in
     let sound : tie.After-is-sound = search in
-    take-not-there _ _ number.take-number.ensures sound.is_sound.ensures allowed.if1.left desk.turn_desk_lem.ensures
+    take_not_there _ _ number.take-number.ensures sound.is_sound.ensures allowed.if1.left desk.turn_desk_lem.ensures
     look.look.ensures c.if2.true
 
 apply-from-requires : tie.Need-apply-from-requires
