@@ -21,7 +21,7 @@ module _ {A : Type 0} (n p : ℕ) (model : Model) (s : Process A) where
   pub same_block : {x : ℕ} {t t' : Process A} → From (blocks x) t → From (blocks x) t' → t ≡ t'
   same_block (block _ _ q w) (block _ _ q' w') = refl
 
-  pub same_send : {u : Updates A} {t t' : Process A} → From (broadcasts u) t → From (broadcasts u) t' → t ≡ t'
+  pub same_send : {u u' : Updates A} {t t' : Process A} → From (broadcasts u) t → From (broadcasts u') t' → t ≡ t'
   same_send (send _ own q) (send _ own' q') = refl
 
   not_both : (x : ℕ) → s.blocked ≡ none → s.blocked ≡ some x → ⊥

@@ -4,7 +4,7 @@
 --   BySheet, looks                            a set for `search`: what `look` knows before it reads the sheet, and what it answers, or that the sheet decides
 --   look-holds, look-refused                  what it answers when the sheet was read
 -- Assumes nothing.
-use mathlib.Core.Path.{◌≡◌, refl, sym, ap, ◌∙◌, subst}
+use mathlib.Core.Path.{◌≡◌, sym, ap, ◌∙◌, subst}
 use mathlib.Core.List.{List}
 use mathlib.Core.Bool.{Bool, true, false, not, ◌&&◌, and-true, and-false}
 use Prim.Native.Nat.{ℕ, ◌+◌, ◌*◌, ◌-◌, ◌<◌, ◌≤◌}
