@@ -1,7 +1,6 @@
 -- `decimal_at` meets its contract: what is read so far, and the rest of the word, are the whole (`DecimalSoFar`).
 -- Assumes nothing.
 use borrow.Author.Rules.{rules}
-use Prim.Native.Nat.{◌-◌}
 use Rattle.text.proofs.Laws.Decimal.{decimal_loop}
 use Rattle.text.proofs.decimal_at.Goals as goal
 

@@ -1,7 +1,6 @@
 -- `part_end` meets its contract: the part that starts where the loop stands ends where it should (`PartSoFar`).
 -- Assumes nothing.
 use borrow.Author.Rules.{rules}
-use Prim.Native.Nat.{◌-◌}
 use Rattle.text.proofs.Laws.Parts.{part_found}
 use Rattle.text.proofs.part_end.Goals as goal
 

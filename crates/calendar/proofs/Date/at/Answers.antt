@@ -36,7 +36,9 @@ overflow_cast-day c = let s = c in
     (record { fits = omega (arith, month_is_short s.args.i s.requires) })
 
 pub overflow_add-result : goal.overflow_add-result
-overflow_add-result c = record { fits = omega (arith, days_before_month-requires c _) }
+overflow_add-result c =
+    let within = span_within (month_length (1901 + c.year_of-k.result)) 11 (c.args.i - c.days_before_year.result) in
+    record { fits = omega (arith, c.month_of-m.ensures, within) }
 
 pub overflow_add-result-2 : goal.overflow_add-result-2
 overflow_add-result-2 c = let s = c in

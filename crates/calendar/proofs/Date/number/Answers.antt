@@ -9,23 +9,23 @@ use Rattle.calendar.proofs.Laws.Day.{number_of_lem}
 use Rattle.calendar.proofs.Date.number.Goals as goal
 
 pub days_to-requires : goal.days_to-requires
-days_to-requires c = sym c.is_date_lem.ensures ∙ c.if-is_date.true
+days_to-requires c = sym c.is_date.ensures ∙ c.if-is_date.true
 
 pub returns-then-is_date : goal.returns-then-is_date
 unfolding day_number_of
 returns-then-is_date c = let t = c.args.self in
-    let e = sym c.is_date_lem.ensures ∙ c.if-is_date.true in
-    rw (e, number_of_lem t, c.days_to_lem.ensures, number_computed (days_to t) (days_to_small t e))
+    let e = sym c.is_date.ensures ∙ c.if-is_date.true in
+    rw (e, number_of_lem t, c.days_to.ensures, number_computed (days_to t) (days_to_small t e))
 
 pub overflow_cast-result : goal.overflow_cast-result
-overflow_cast-result c = let e = sym c.is_date_lem.ensures ∙ c.if-is_date.true in
-    rw c.days_to_lem.ensures (record { sfits = omega (arith, days_to_small c.args.self e) })
+overflow_cast-result c = let e = sym c.is_date.ensures ∙ c.if-is_date.true in
+    rw c.days_to.ensures (record { sfits = omega (arith, days_to_small c.args.self e) })
 
 pub overflow_sub-result : goal.overflow_sub-result
 overflow_sub-result c = let t = c.args.self in
-    let e = sym c.is_date_lem.ensures ∙ c.if-is_date.true in
-    rw c.days_to_lem.ensures (number_fits (days_to t) (days_to_small t e))
+    let e = sym c.is_date.ensures ∙ c.if-is_date.true in
+    rw c.days_to.ensures (number_fits (days_to t) (days_to_small t e))
 
 pub returns : goal.returns
 unfolding day_number_of
-returns c = rw (sym c.is_date_lem.ensures ∙ c.if-is_date.false)
+returns c = rw (sym c.is_date.ensures ∙ c.if-is_date.false)

@@ -15,5 +15,6 @@ pub loop-left-preserved : goal.loop-left-preserved
 loop-left-preserved c = printed_turned _ _ _ _ c.loop-left.invariant (omega arith)
 
 pub returns : goal.returns
-returns c = let ended = c in
-    printed_laid _ _ _ _ ended.before.loop.invariant (omega arith) _ _ _ c.put.ensures
+returns c =
+    let ended = printed_laid _ _ _ _ c.loop-left.invariant (omega arith) _ _ _ c.put.ensures in
+    record { buf_after = ended.0; value = ended.1 }
