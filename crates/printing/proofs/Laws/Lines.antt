@@ -17,7 +17,7 @@ use Rattle.printing.specs.Parts.{Puts, mode_text}
 use Rattle.printing.proofs.Laws.Puts.{puts_same, ◌then◌}
 
 -- what a call gives back, as its promises have it
-abbrev Writes : List ℕ → ℕ → List ℕ → List ℕ → ℕ → Type 0
+abbrev pub Writes : List ℕ → ℕ → List ℕ → List ℕ → ℕ → Type 0
 Writes b at line b' end = (record { bytes = b'; end = end } ≡ wrote b at line) × (end ≤ at + 64)
 
 module _ (b : List ℕ) (at : ℕ) (line : List ℕ) where
