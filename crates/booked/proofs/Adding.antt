@@ -121,6 +121,7 @@ module _ (room : List ℕ) (len : ℕ) (s : List ℕ) where
   by_13 (this p n) = not-true (good s) p
   by_13 (later p (this q n)) = absurd (omega arith)
   by_13 (later p (later q (this r n))) = absurd (omega arith)
+  by_13 (later p (later q (later _ x))) = elim x [ ]
 
   beyond_or_bad : (t g : Bool) → (t || not g) ≡ true → (t ≡ true) ⊎ (g ≡ false)
   beyond_or_bad true g e = inl refl
@@ -134,6 +135,7 @@ module _ (room : List ℕ) (len : ℕ) (s : List ℕ) where
       which (inl t) = inl (ltb-true (length room) len t)
       which (inr g) = inr g
   by_23 (later p (later q (this r n))) = absurd (omega arith)
+  by_23 (later p (later q (later _ x))) = elim x [ ]
 
   by_11 : First 11 (add_rules room len s)
       → (good s ≡ true) × (len ≤ length room) × (good_book (becomes room len s) ≡ true) × (length room < len + length s)
@@ -144,6 +146,7 @@ module _ (room : List ℕ) (len : ℕ) (s : List ℕ) where
       let within = ltb-false (length room) len both.0 in
       let short = ltb-true (length room - len) (length s) r in
       (not-false (good s) p, within, not-false (good_book (becomes room len s)) both.1, omega arith)
+  by_11 (later p (later q (later _ x))) = elim x [ ]
 
   beyond_is : (length room < len) ⊎ (good_book (becomes room len s) ≡ false) → (ltb (length room) len || not (good_book (becomes room len s))) ≡ true
   beyond_is (inl h) = rw (lt-ltb (length room) len h)

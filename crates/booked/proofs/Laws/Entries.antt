@@ -48,7 +48,7 @@ module _ (cell : ℕ) where
           (subst (λ (y : Entry). In y (x ∷ es)) same here, ap (λ (y : Entry). y.cell) (sym same) ∙ eqb-true x.cell cell q)
       by_test rest false q p = let i = rest p in (further i.0, i.1)
 
-  none_in : {es : List Entry} {e : Entry} → In e es → entry_on cell es ≡ none → e.cell ≡ cell → ⊥
+  none_in : {e : Entry} {es : List Entry} → In e es → entry_on cell es ≡ none → e.cell ≡ cell → ⊥
   unfolding entry_on
   none_in {e = e} here p c = some_is_not_none e (sym (rw (eq-eqb e.cell cell c)) ∙ p)
   none_in {e = e} (further {y = y} {l = es} i) p c = by_test (none_in i) (eqb y.cell cell) p
