@@ -1,8 +1,8 @@
 -- What `rounds` prints of a step can be read back, so no two lines are printed alike (specs/Printed.antt).
---   lines-printed-apart : LinesPrintedApart
---   contents-printed-apart : ContentsPrintedApart
---   never-alike : NeverAlike
---   saidStepAnswer-tells-apart : StepAnswersApart (specs/Promises.antt)
+--   lines_printed_apart : LinesPrintedApart
+--   contents_printed_apart : ContentsPrintedApart
+--   never_alike : NeverAlike
+--   said_step_answer_tells_apart : StepAnswersApart (specs/Promises.antt)
 -- What an answer carries is read off the front of its words, number by number (`number_then`) and content by content (`content_or`), and the first word
 -- says which answer it is (`by_word`).
 -- Assumes nothing.
