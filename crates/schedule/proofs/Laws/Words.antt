@@ -2,9 +2,9 @@
 --   not_before                                     a test and its contrary
 --   capped_test                                    a test of a capped value is the value's
 --   most_of                                        a value that passed a test is within it
---   number_found, no_number                        what `number_at` answers; numbers-read, a set for `search`
+--   number_found, no_number                        what `number_at` answers; numbers_read, a set for `search`
 --   number_room, letter_room                       where a word ends
---   letter_place, letter_found, no_letter          what `letter_at` answers; letters-read
+--   letter_place, letter_found, no_letter          what `letter_at` answers; letters_read
 --   past_is_0                                      what `byte_at` answers past the end
 --   letter_is                                      a word is a letter if its byte is
 --   mode_s, mode_c, mode_k, mode_default, no_mode  what `mode_of` answers; modes

@@ -5,7 +5,7 @@
 --   part_taken                          it is as many bytes of the text
 --   parts_on                            the parts are the first, and, where a separator ends it, those behind it: what a walk from part to part cites
 --   part_short, part_room, part_within  how long it can be: a part that starts in the text ends in it
---   PartSoFar, part-found               the loop that looks for a part's end, and its laws as a set for `search`
+--   PartSoFar, part_found               the loop that looks for a part's end, and its laws as a set for `search`
 -- Assumes nothing.
 use mathlib.Core.Path.{◌≡◌, refl, sym, ap, ◌∙◌}
 use mathlib.Core.List.{List, [], ◌∷◌}

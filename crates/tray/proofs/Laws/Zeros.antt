@@ -1,7 +1,7 @@
 -- Laws of zeros: of `zeros` (specs/Tray.antt), and of zeros laid over a tray.
 --   ZerosSoFar, zeros_begun, zeros_turned, zeros_ended              the loop that looks for a byte that is none
 --   ClearedSoFar, cleared_begun, cleared_turned, cleared_ended      the loop that lays them: `PutSoFar` of the laying's laws
---   zeros-found, zeros-laid                                         the two loops' laws as sets for `search`
+--   zeros_found, zeros_laid                                         the two loops' laws as sets for `search`
 --   zeros_are                                                       zeros are zeros
 -- Assumes nothing.
 use mathlib.Core.Path.{◌≡◌, refl, sym, ap, ◌∙◌, subst}
