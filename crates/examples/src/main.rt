@@ -52,10 +52,8 @@ fn say_content(rt: &impl Print, c: Content) {
 
 // " 01 02 FF"
 fn say_bytes(rt: &impl Print, s: &[u8]) {
-    let mut i = 0;
-    while i < s.len() {
-        say_byte(rt, s[i]);
-        i += 1;
+    for b in s {
+        say_byte(rt, *b);
     }
 }
 
