@@ -9,12 +9,12 @@
 // at all, turn number 4,294,967,295; good: 4,294,967,294; and one that is cut short.
 #![tactic(auto)]
 
-ghost use Rattle.std.specs.Prelude.{◌<◌, length};
+ghost use Rattle.std.specs.Prelude.{◌<◌, ◌≤◌, length};
 
 use content::Content;
 use layout::{Entry, Numbers};
-use libc::{STDIN_FILENO, STDOUT_FILENO};
 use sheet::Reading;
+use std::io::Read;
 use writer::Written;
 
 // Each `put` function lays text into a line from `at` on, and answers where the line goes on. Text
@@ -37,10 +37,13 @@ fn put(line: &mut [u8], at: usize, text: &[u8]) -> usize {
     at
 }
 
+// In decimal: the digits before the last, where there are some, and the last.
 fn put_number(line: &mut [u8], at: usize, n: u64) -> usize {
-    let mut text = [0u8; 20];
-    let k = io::decimal(n, &mut text);
-    put(line, at, &text[..k])
+    let mut at = at;
+    if 10 <= n {
+        at = put_number(line, at, n / 10);
+    }
+    put_byte(line, at, b'0' + (n % 10) as u8)
 }
 
 // Text, and a number behind it.
@@ -111,7 +114,7 @@ fn is_first(room: &[u8], len: usize, s: &[u8]) -> bool {
     if room.len() < len {
         return false;
     }
-    check::same(&room[..len], s)
+    &room[..len] == s
 }
 
 // Writes what was read into the room, and says whether the same bytes came out.
@@ -143,20 +146,20 @@ fn put_sheet(line: &mut [u8], s: &[u8]) -> usize {
 }
 
 // The line goes out in one piece.
-fn say(line: &[u8], len: usize) {
+fn say(rt: &impl Print, line: &[u8], len: usize) {
     if len <= line.len() {
-        io::write_all(STDOUT_FILENO, &line[..len]);
+        let _ = rt.write_all(&line[..len]);
     }
 }
 
-fn say_sheet(line: &mut [u8], s: &[u8]) {
+fn say_sheet(rt: &impl Print, line: &mut [u8], s: &[u8]) {
     let at = put_sheet(line, s);
     let at = put(line, at, b"\n");
-    say(line, at);
+    say(rt, line, at);
 }
 
 // The record at `at`, and where the next one is: the input's end if this one is cut short.
-fn say_record(line: &mut [u8], input: &[u8], at: usize) -> usize
+fn say_record(rt: &impl Print, line: &mut [u8], input: &[u8], at: usize) -> usize
     requires { at < length input.now }
     ensures { at < result }
 {
@@ -169,20 +172,38 @@ fn say_record(line: &mut [u8], input: &[u8], at: usize) -> usize
         return input.len();
     }
     let to = from + len;
-    say_sheet(line, &input[from..to]);
+    say_sheet(rt, line, &input[from..to]);
     to
 }
 
-fn say_records(line: &mut [u8], input: &[u8]) {
+fn say_records(rt: &impl Print, line: &mut [u8], input: &[u8]) {
     let mut at = 0;
     while at < input.len() {
-        at = say_record(line, input, at);
+        at = say_record(rt, line, input, at);
     }
 }
 
-fn main() {
-    let mut space = io::large_buffer();
-    let len = io::read_full(STDIN_FILENO, &mut space);
+// What there is to read, up to the space's end, and how many bytes that is. A read that fails is
+// taken for the input's end.
+fn read_full(from: &mut impl Read, space: &mut [u8]) -> usize
+    ensures { result ≤ length space.new }
+{
+    let mut len = 0;
+    while len < space.len() {
+        let Ok(more) = from.read(&mut space[len..]) else {
+            break;
+        };
+        if more == 0 {
+            break;
+        }
+        len += more;
+    }
+    len
+}
+
+fn main(rt: HostRuntime) {
+    let mut space = [0u8; 65536];
+    let len = read_full(&mut rt.stdin(), &mut space);
     let mut line = [0u8; 2048];
-    say_records(&mut line, &space[..len]);
+    say_records(&rt, &mut line, &space[..len]);
 }
