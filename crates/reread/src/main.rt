@@ -29,10 +29,8 @@ fn put_byte(line: &mut [u8], at: usize, b: u8) -> usize {
 
 fn put(line: &mut [u8], at: usize, text: &[u8]) -> usize {
     let mut at = at;
-    let mut i = 0;
-    while i < text.len() {
-        at = put_byte(line, at, text[i]);
-        i += 1;
+    for b in text {
+        at = put_byte(line, at, *b);
     }
     at
 }
@@ -77,10 +75,8 @@ fn put_entry(line: &mut [u8], at: usize, e: Entry) -> usize {
 
 fn put_entries(line: &mut [u8], at: usize, s: &[u8], count: u8) -> usize {
     let mut at = at;
-    let mut k = 0;
-    while k < count {
+    for k in 0..count {
         at = put_entry(line, at, sheet::entry_at(s, k));
-        k += 1;
     }
     at
 }
