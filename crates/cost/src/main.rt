@@ -22,7 +22,6 @@ ghost use Rattle.std.specs.Prelude.{◌≡◌, ◌≤◌, length};
 
 use content::Content;
 use desk::{Answer, Desk, Outcome};
-use std::io::Read;
 
 fn worth(a: Answer) -> u64
     ensures { result ≤ 255 }
@@ -233,29 +232,12 @@ fn say_lines(rt: &impl Print, input: &[u8], past: &mut [u8]) {
     }
 }
 
-// What there is to read, up to the space's end, and how many bytes that is. A read that fails is
-// taken for the input's end.
-fn read_full(from: &mut impl Read, space: &mut [u8]) -> usize
-    ensures { result ≤ length space.new }
-{
-    let mut len = 0;
-    while len < space.len() {
-        let Ok(more) = from.read(&mut space[len..]) else {
-            break;
-        };
-        if more == 0 {
-            break;
-        }
-        len += more;
-    }
-    len
-}
-
 fn main(rt: HostRuntime) {
     let mut input = rt.stdin();
     let mut space = [0u8; 4096];
-    let len = read_full(&mut input, &mut space);
+    // A read that fails is taken for the input's end.
+    let (len, _) = word::read_all(&mut input, &mut space);
     let mut past = [0u8; 4096];
-    let more = read_full(&mut input, &mut past);
+    let (more, _) = word::read_all(&mut input, &mut past);
     say_lines(&rt, &space[..len], &mut past[..more]);
 }

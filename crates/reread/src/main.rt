@@ -9,12 +9,11 @@
 // at all, turn number 4,294,967,295; good: 4,294,967,294; and one that is cut short.
 #![tactic(auto)]
 
-ghost use Rattle.std.specs.Prelude.{◌<◌, ◌≤◌, length};
+ghost use Rattle.std.specs.Prelude.{◌<◌, length};
 
 use content::Content;
 use layout::{Entry, Numbers};
 use sheet::Reading;
-use std::io::Read;
 use writer::Written;
 
 // Each `put` function lays text into a line from `at` on, and answers where the line goes on. Text
@@ -179,27 +178,10 @@ fn say_records(rt: &impl Print, line: &mut [u8], input: &[u8]) {
     }
 }
 
-// What there is to read, up to the space's end, and how many bytes that is. A read that fails is
-// taken for the input's end.
-fn read_full(from: &mut impl Read, space: &mut [u8]) -> usize
-    ensures { result ≤ length space.new }
-{
-    let mut len = 0;
-    while len < space.len() {
-        let Ok(more) = from.read(&mut space[len..]) else {
-            break;
-        };
-        if more == 0 {
-            break;
-        }
-        len += more;
-    }
-    len
-}
-
 fn main(rt: HostRuntime) {
     let mut space = [0u8; 65536];
-    let len = read_full(&mut rt.stdin(), &mut space);
+    // A read that fails is taken for the input's end.
+    let (len, _) = word::read_all(&mut rt.stdin(), &mut space);
     let mut line = [0u8; 2048];
     say_records(&rt, &mut line, &space[..len]);
 }

@@ -7,7 +7,7 @@
 // it; the program's own exit status says nothing.
 #![tactic(auto)]
 
-ghost use Rattle.std.specs.Prelude.{◌≡◌, ◌≤◌, length, IfOk};
+ghost use Rattle.std.specs.Prelude.{◌≡◌, ◌≤◌, length};
 ghost use Rattle.word.specs.Ending.{digit_of, Says};
 ghost use Rattle.word.specs.Input.{Within};
 
@@ -51,18 +51,34 @@ enum Source<F> {
 pub fn read(rt: &(impl Env + Files + io::Input + Eprint + Alloc), i: usize, buf: &mut [u8]) -> Input
     ensures { Within buf.new result }
 {
-    let read = match opened(rt, i) {
+    let (size, read) = match opened(rt, i) {
         Source::Standard => read_all(&mut rt.reader(), buf),
         Source::File(mut file) => read_all(&mut file, buf),
         Source::None => return Input::Failed,
     };
     match read {
-        Ok(size) => Input::Read(size),
+        Ok(()) => Input::Read(size),
         Err(e) => {
             fail(rt, "the input cannot be read", e);
             Input::Failed
         }
     }
+}
+
+// Reads until the input ends, buf is full or a read fails, and answers how many bytes came, and
+// whether all reads went well.
+pub fn read_all(from: &mut impl Read, buf: &mut [u8]) -> (usize, io::Result<()>)
+    ensures { result.0 ≤ length buf.new }
+{
+    let mut len = 0;
+    while len < buf.len() {
+        match from.read(&mut buf[len..]) {
+            Ok(0) => break,
+            Ok(more) => len += more,
+            Err(e) => return (len, Err(e)),
+        }
+    }
+    (len, Ok(()))
 }
 
 // Prints the answer on standard output, and says that it is one, or that it is a refusal. Where it
@@ -156,19 +172,4 @@ fn opened<R: Env + Files + Eprint + Alloc>(rt: &R, i: usize) -> Source<R::File> 
 fn unnamed<F>(rt: &impl Eprint, why: &str) -> Source<F> {
     let _ = eprintln!(rt; "a file's name: {why}");
     Source::None
-}
-
-// Reads until the input ends or buf is full, and answers how many bytes.
-fn read_all(from: &mut impl Read, buf: &mut [u8]) -> io::Result<usize>
-    ensures { IfOk result (λ n. n ≤ length buf.new) }
-{
-    let mut len = 0;
-    while len < buf.len() {
-        let more = from.read(&mut buf[len..])?;
-        if more == 0 {
-            break;
-        }
-        len += more;
-    }
-    Ok(len)
 }
