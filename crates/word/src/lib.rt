@@ -105,6 +105,11 @@ pub fn ended(rt: &(impl Env + Files), refused: bool) -> u8
     d
 }
 
+// Whether there is an argument i: of argument 1, whether `./register` started the program.
+pub fn has_argument(rt: &impl Env, i: usize) -> bool {
+    !matches!(rt.arg(i, &mut []), Err(FillError::NotPresent))
+}
+
 // Says on standard error what failed, and why, in a line.
 pub fn fail(rt: &(impl Eprint + Alloc), what: &str, error: io::Error) {
     let _ = match format!(in rt.alloc(); "{error}") {
@@ -128,10 +133,6 @@ fn digit(refused: bool) -> u8
     ensures { result ≡ digit_of refused }
 {
     if refused { b'1' } else { b'0' }
-}
-
-fn has_argument(rt: &impl Env, i: usize) -> bool {
-    !matches!(rt.arg(i, &mut []), Err(FillError::NotPresent))
 }
 
 // Whether descriptor 3 is open, and for writing: its name has the permissions that it was opened
