@@ -25,10 +25,7 @@ fn new_name(rt: &impl Env, buf: &mut [u8]) -> usize
 pub(crate) fn hold<R: Env + Files + Eprint + Alloc>(rt: &R) -> Option<R::File> {
     let mut buf = [0u8; 4096];
     let len = new_name(rt, &mut buf);
-    let Ok(name) = from_utf8(&buf[..len]) else {
-        arguments::complain(rt, "a file's name: it is not UTF-8\n");
-        return None;
-    };
+    let name = word::name_of(rt, &buf[..len])?;
     match OpenOptions::new()
         .write(true)
         .create_new(true)

@@ -129,6 +129,18 @@ fn words_of(error: &str) -> &str {
     }
 }
 
+// An argument as a file's name. No other can be opened than one in UTF-8: of any other a line on
+// standard error says so.
+pub fn name_of<'a>(rt: &impl Eprint, argument: &'a [u8]) -> Option<&'a str> {
+    match from_utf8(argument) {
+        Ok(name) => Some(name),
+        Err(_) => {
+            let _ = eprintln!(rt; "a file's name: it is not UTF-8");
+            None
+        }
+    }
+}
+
 fn digit(refused: bool) -> u8
     ensures { result ≡ digit_of refused }
 {
@@ -156,10 +168,13 @@ fn opened<R: Env + Files + Eprint + Alloc>(rt: &R, i: usize) -> Source<R::File> 
     let len = match rt.arg(i, &mut buf) {
         Ok(len) => len,
         Err(FillError::NotPresent) => return Source::Standard,
-        Err(FillError::TooLong) => return unnamed(rt, "File name too long"),
+        Err(FillError::TooLong) => {
+            let _ = eprintln!(rt; "a file's name: File name too long");
+            return Source::None;
+        }
     };
-    let Ok(name) = from_utf8(&buf[..len]) else {
-        return unnamed(rt, "it is not UTF-8");
+    let Some(name) = name_of(rt, &buf[..len]) else {
+        return Source::None;
     };
     match fs::open(rt, name) {
         Ok(file) => Source::File(file),
@@ -168,9 +183,4 @@ fn opened<R: Env + Files + Eprint + Alloc>(rt: &R, i: usize) -> Source<R::File> 
             Source::None
         }
     }
-}
-
-fn unnamed<F>(rt: &impl Eprint, why: &str) -> Source<F> {
-    let _ = eprintln!(rt; "a file's name: {why}");
-    Source::None
 }
