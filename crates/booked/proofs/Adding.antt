@@ -1,7 +1,7 @@
 -- What specs/Adding.antt states of adding.
---   added-to : AddedTo adding02, added-lookup : AddedLookup adding02 lookupOf
---   add-refused : AddRefused adding02, adds-if : AddsIf adding02
---   good-with-one-more : GoodWithOneMore, none-after-the-last : NoneAfterTheLast adding02
+--   added_to : AddedTo adding02, added_lookup : AddedLookup adding02 lookup_of
+--   add_refused : AddRefused adding02, adds_if : AddsIf adding02
+--   good_with_one_more : GoodWithOneMore, none_after_the_last : NoneAfterTheLast adding02
 -- Assumes nothing.
 use mathlib.Core.Path.{◌≡◌, refl, sym, ap, ◌∙◌, subst}
 use mathlib.Core.Logic.{◌⊎◌, inl, inr}
@@ -121,6 +121,7 @@ module _ (room : List ℕ) (len : ℕ) (s : List ℕ) where
   by_13 (this p n) = not-true (good s) p
   by_13 (later p (this q n)) = absurd (omega arith)
   by_13 (later p (later q (this r n))) = absurd (omega arith)
+  by_13 (later p (later q (later _ x))) = elim x [ ]
 
   beyond_or_bad : (t g : Bool) → (t || not g) ≡ true → (t ≡ true) ⊎ (g ≡ false)
   beyond_or_bad true g e = inl refl
@@ -134,6 +135,7 @@ module _ (room : List ℕ) (len : ℕ) (s : List ℕ) where
       which (inl t) = inl (ltb-true (length room) len t)
       which (inr g) = inr g
   by_23 (later p (later q (this r n))) = absurd (omega arith)
+  by_23 (later p (later q (later _ x))) = elim x [ ]
 
   by_11 : First 11 (add_rules room len s)
       → (good s ≡ true) × (len ≤ length room) × (good_book (becomes room len s) ≡ true) × (length room < len + length s)
@@ -144,6 +146,7 @@ module _ (room : List ℕ) (len : ℕ) (s : List ℕ) where
       let within = ltb-false (length room) len both.0 in
       let short = ltb-true (length room - len) (length s) r in
       (not-false (good s) p, within, not-false (good_book (becomes room len s)) both.1, omega arith)
+  by_11 (later p (later q (later _ x))) = elim x [ ]
 
   beyond_is : (length room < len) ⊎ (good_book (becomes room len s) ≡ false) → (ltb (length room) len || not (good_book (becomes room len s))) ≡ true
   beyond_is (inl h) = rw (lt-ltb (length room) len h)

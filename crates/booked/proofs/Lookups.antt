@@ -1,7 +1,7 @@
 -- What specs/Lookups.antt states of a lookup.
---   last-sheet-with : LastSheetWith lookupOf
---   lookup-refuses : LookupRefuses lookupOf
---   no-bytes-have-64-cells : NoBytesHave64Cells lookupOf
+--   last_sheet_with : LastSheetWith lookup_of
+--   lookup_refuses : LookupRefuses lookup_of
+--   no_bytes_have_64_cells : NoBytesHave64Cells lookup_of
 -- Assumes nothing.
 use mathlib.Core.Path.{◌≡◌, refl, sym, ◌∙◌}
 use mathlib.Core.Bool.{true, false}
@@ -32,10 +32,12 @@ module _ (b : List ℕ) (cell : ℕ) where
   by_23 : First 23 (lookup_rules b cell) → good_book b ≡ false
   by_23 (this p n) = not-true (good_book b) p
   by_23 (later p (this q n)) = absurd (omega arith)
+  by_23 (later p (later _ x)) = elim x [ ]
 
   by_6 : First 6 (lookup_rules b cell) → (good_book b ≡ true) × (cells_of (sheets_of b) ≤ cell)
   by_6 (this p n) = absurd (omega arith)
   by_6 (later p (this q n)) = (not-false (good_book b) p, ltb-false cell (cells_of (sheets_of b)) (not-true _ q))
+  by_6 (later p (later _ x)) = elim x [ ]
 
 pub lookup_refuses : LookupRefuses lookup_of
 unfolding lookup_of

@@ -1,8 +1,7 @@
 // A reader of a book. 02, K1: "A reader keeps the book and the place it has got to, and gives back
 // each sheet as the very part of the book that holds it."
 //
-// A function over a struct that holds a reference is proved by a walk of its MIR, by hand. So each
-// here is thin: the work is the crate book's, over a slice and a number.
+// Each function here is thin: the work is the crate book's, over a slice and a number.
 #![tactic(auto)]
 
 ghost use Rattle.std.specs.Prelude.{◌≡◌};
@@ -39,8 +38,8 @@ impl<'a> Reader<'a> {
     }
 }
 
-// One step back from a place, forged or not, by a reader that stands there. A caller needs no walk:
-// no reader is in the contract.
+// One step back from a place, forged or not, by a reader that stands there. No reader is in the
+// contract.
 pub fn step_from(book: &[u8], place: usize) -> Back
     ensures { result ≡ step_back book.now place }
 {

@@ -1,7 +1,6 @@
--- answers-apart : AnswersApart (specs/Promises.antt).
+-- answers_apart : AnswersApart (specs/Promises.antt).
 -- Assumes nothing.
 use mathlib.Core.Path.{◌≡◌, refl}
-use Prim.Native.Nat.{ℕ}
 use Rattle.answer.proofs.Laws.{again, apart}
 use Rattle.book.specs.declared.Counted.{Counted}
 use Rattle.book.specs.declared.Counted.TheVariants as counted

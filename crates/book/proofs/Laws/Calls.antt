@@ -1,20 +1,18 @@
 -- Laws of the calls (specs/Counting.antt, specs/Lookup.antt, specs/Adding.antt), by what one pass
 -- through the book finds.
---   told-bad, told-empty, told-sheets      what it says of the book
+--   told_bad, told_empty, told_sheets      what it says of the book
 --   goods, counts, finds, lookups, addings sets for `search`: what each call knows at each of its returns, and what it answers
 -- Assumes nothing.
-use mathlib.Core.Path.{◌≡◌, refl, sym, ap, ◌∙◌, subst}
+use mathlib.Core.Path.{◌≡◌, refl, sym, ap, ◌∙◌}
 use mathlib.Core.Bool.{Bool, true, false, cond, not, ◌&&◌, and-true, and-false}
-use mathlib.Core.List.{List, [], ◌∷◌, ◌++◌, append_assoc}
-use Prim.Native.Nat.{ℕ, suc, ◌+◌, ◌-◌, ◌<◌, ◌≤◌}
+use mathlib.Core.List.{List, [], ◌∷◌}
+use Prim.Native.Nat.{ℕ, ◌+◌, ◌-◌, ◌<◌, ◌≤◌}
 use native.Mathlib.Omega.{arith}
 use lib.Dec.{eqb, ltb}
-use lib.ListN.{length, take, drop, length-append}
-use lib.Seq.{length-take-le}
+use lib.ListN.{length, take}
 use borrow.Author.Tests.{lt-ltb, le-ltb, not-true, not-false}
 use Rattle.answer.specs.Answer.{refused, answered}
 use Rattle.layout.specs.declared.Numbers.{Numbers}
-use Rattle.layout.specs.Layout.{trailer_in, numbers_of}
 use Rattle.laying.specs.Laying.{laid_over}
 use Rattle.laying.proofs.Laws.{laid}
 use Rattle.numbers.proofs.Tests.{and_left, tested}

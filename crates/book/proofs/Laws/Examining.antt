@@ -4,9 +4,9 @@
 --   examines                       a set for `search`: what the pass knows at each of its returns, and what it answers
 -- Assumes nothing.
 use mathlib.Core.Path.{◌≡◌, refl, sym, ap, ◌∙◌, subst}
-use mathlib.Core.Bool.{Bool, true, false, cond, not, ◌&&◌}
+use mathlib.Core.Bool.{Bool, true, false, not, ◌&&◌}
 use mathlib.Core.List.{List, [], ◌∷◌}
-use Prim.Native.Nat.{ℕ, zero, suc, ◌+◌, ◌-◌, ◌<◌, ◌≤◌}
+use Prim.Native.Nat.{ℕ, suc, ◌+◌, ◌<◌, ◌≤◌}
 use native.Mathlib.Omega.{arith}
 use lib.ListN.{length, take}
 use lib.Seq.{take-length, length-take-le}
@@ -21,10 +21,10 @@ use Rattle.book.specs.declared.examined.Examined.{Examined}
 use Rattle.book.specs.declared.examined.Examined.TheVariants as examined
 use Rattle.book.specs.declared.examined.Older.{Older}
 use Rattle.book.specs.declared.examined.Older.TheVariants as older
-use Rattle.book.specs.Sheets.{last_sheet, before, sheets_back, sheets_of}
-use Rattle.book.specs.Good.{numbers_in, good_sheets, good_book}
+use Rattle.book.specs.Sheets.{last_sheet, before, sheets_of}
+use Rattle.book.specs.Good.{good_sheets, good_book}
 use Rattle.book.specs.Stepping.{part_of, step_back}
-use Rattle.book.specs.Parts.{fits_before, good_before, older_of, sheets_found, examined_of, takes_next}
+use Rattle.book.specs.Parts.{fits_before, good_before, older_of, examined_of, takes_next}
 use Rattle.book.proofs.Laws.Sheets.{sheets_none, sheets_cut, sheets_few}
 use Rattle.book.proofs.Laws.Good.{good_is_before}
 use Rattle.book.proofs.Laws.Stepping.{Stepped, stepped, stepped_none}

@@ -2,11 +2,11 @@
 --   HitSoFar, hits                 the loop over a sheet's entries: what was passed over is another cell's; a set for `search`
 --   NewestSoFar, newests           the loop back through a book: no sheet so far has the cell; a set for `search`
 -- Assumes nothing.
-use mathlib.Core.Path.{◌≡◌, refl, sym, ap, ◌∙◌, subst}
+use mathlib.Core.Path.{◌≡◌, refl, sym, ap, ◌∙◌}
 use mathlib.Core.Bool.{Bool, true, false, false≢true}
 use mathlib.Core.List.{List, [], ◌∷◌}
 use mathlib.Core.Option.{Option, none, some}
-use Prim.Native.Nat.{ℕ, zero, suc, ◌+◌, ◌*◌, ◌-◌, ◌<◌, ◌≤◌}
+use Prim.Native.Nat.{ℕ, suc, ◌+◌, ◌*◌, ◌<◌, ◌≤◌}
 use native.Mathlib.Omega.{arith}
 use native.Mathlib.Numerals.{add-one}
 use lib.Dec.{eqb}
@@ -31,7 +31,7 @@ use Rattle.book.specs.declared.newest.Hit.TheVariants as hit
 use Rattle.book.specs.Sheets.{last_sheet, before, sheets_of}
 use Rattle.book.specs.Good.{numbers_in, every_sheet}
 use Rattle.book.specs.Stepping.{part_of, step_back}
-use Rattle.book.specs.Lookup.{LastSet, blank, entry, entries_in, entry_on, or_older, newest}
+use Rattle.book.specs.Lookup.{entries_in, entry_on, or_older, newest}
 use Rattle.book.specs.Parts.{hit_of, found_of}
 use Rattle.book.proofs.Laws.Sheets.{sheets_none, sheets_cut}
 use Rattle.book.proofs.Laws.Stepping.{Stepped, stepped, stepped_none}

@@ -1,8 +1,8 @@
 -- Laws of `entry_on` (crates/book/specs/Lookup.antt), by the entries that a sheet has.
---   every_in, sheet-in         what a test says of every entry, and of every sheet, it says of one
---   later-above                entries that rise: those behind one have higher cells
---   has-entry, has-none        what is found a sheet has; where none is found it has none
---   found-entry, found_none    what a good sheet has is found; where it has none, none is
+--   every_in, sheet_in         what a test says of every entry, and of every sheet, it says of one
+--   later_above                entries that rise: those behind one have higher cells
+--   has_entry, has_none        what is found a sheet has; where none is found it has none
+--   found_entry, found_none    what a good sheet has is found; where it has none, none is
 -- Assumes nothing.
 use mathlib.Core.Path.{◌≡◌, refl, sym, ap, ◌∙◌, subst}
 use mathlib.Core.Bool.{Bool, true, false, cond}
@@ -48,7 +48,7 @@ module _ (cell : ℕ) where
           (subst (λ (y : Entry). In y (x ∷ es)) same here, ap (λ (y : Entry). y.cell) (sym same) ∙ eqb-true x.cell cell q)
       by_test rest false q p = let i = rest p in (further i.0, i.1)
 
-  none_in : {es : List Entry} {e : Entry} → In e es → entry_on cell es ≡ none → e.cell ≡ cell → ⊥
+  none_in : {e : Entry} {es : List Entry} → In e es → entry_on cell es ≡ none → e.cell ≡ cell → ⊥
   unfolding entry_on
   none_in {e = e} here p c = some_is_not_none e (sym (rw (eq-eqb e.cell cell c)) ∙ p)
   none_in {e = e} (further {y = y} {l = es} i) p c = by_test (none_in i) (eqb y.cell cell) p

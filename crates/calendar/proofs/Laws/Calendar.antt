@@ -1,13 +1,13 @@
 -- The promises of specs/Promises.antt.
---   dates-come-back, days-come-back     date to day number and back undo each other
---   next-dates, next-days               days that follow one another have numbers that do
+--   dates_come_back, days_come_back     date to day number and back undo each other
+--   next_dates, next_days               days that follow one another have numbers that do
 --   ends                                the calendar's ends, by computation
---   saidDay-tells-apart, saidDate-tells-apart     no two answers say the same
+--   said_day_tells_apart, said_date_tells_apart     no two answers say the same
 -- Assumes nothing.
 use mathlib.Core.Path.{◌≡◌, refl, ap, sym, ◌∙◌}
 use mathlib.Core.Bool.{Bool, true, false}
 use mathlib.Core.Logic.{⊎_elim}
-use Prim.Native.Nat.{ℕ, zero, suc, ◌<◌}
+use Prim.Native.Nat.{ℕ, suc, ◌<◌}
 use native.Mathlib.Nat.{eq-or-lt_of_le}
 use native.Mathlib.Omega.{arith}
 use lib.IntN.{ℤ, pos, negsuc, suc_ℤ, nat_abs, ◌+ℤ◌, suc_ℤ-+ℤ, -ℤ-+ℤ_cancel}

@@ -1,18 +1,17 @@
 -- Laws of parts of a list: what laying bytes over a buffer leaves of it, and parts of parts.
---   by-room                                     a fact about what laying leaves, from the two cases
---   laid-long                                   a buffer is as long as before
---   laid-inside, laid-before, laid-after        what stands where bytes were laid, before them and after them
+--   by_room                                     a fact about what laying leaves, from the two cases
+--   laid_long                                   a buffer is as long as before
+--   laid_inside, laid_before, laid_after        what stands where bytes were laid, before them and after them
 --   part_of, byte_of                            a part of a part, and a byte of one, where they stand in the whole
 -- Assumes nothing.
 use mathlib.Core.Path.{◌≡◌, refl, sym, ap, ◌∙◌}
-use mathlib.Core.List.{List, [], ◌∷◌, ◌++◌, append_assoc}
+use mathlib.Core.List.{List, ◌++◌, append_assoc}
 use mathlib.Core.Bool.{Bool, true, false}
-use Prim.Native.Nat.{ℕ, zero, suc, ◌+◌, ◌-◌, ◌<◌, ◌≤◌}
+use Prim.Native.Nat.{ℕ, ◌+◌, ◌-◌, ◌<◌, ◌≤◌}
 use native.Mathlib.Omega.{arith}
-use native.Mathlib.Nat.{zero-add, suc-add}
 use lib.Dec.{leb}
 use lib.ListN.{length, get_or, take, drop, length-append, length-drop, take-append-drop}
-use lib.Seq.{length-take-le, take-nil, take-append-le, take_at, drop-append-le, drop-append-add, drop_at, drop-drop, take-take, get_or-take, get_or-drop}
+use lib.Seq.{length-take-le, take-append-le, take_at, drop-append-le, drop-append-add, drop_at, drop-drop, take-take, get_or-take, get_or-drop}
 use borrow.Author.Tests.{leb-true, leb-false}
 use Rattle.laying.specs.Laying.{laid_over}
 use Rattle.laying.proofs.Laws.{drop_take, laid, no_room}
