@@ -1,7 +1,6 @@
 -- `ends_in` meets its contract: what was looked at so far, and the rest, are the whole (`EndsSoFar`).
 -- Assumes nothing.
 use borrow.Author.Rules.{rules}
-use Prim.Native.Nat.{◌-◌}
 use Rattle.rounds.proofs.Laws.EndsIn.{ends_found}
 use Rattle.rounds.proofs.ends_in.Goals as goal
 
