@@ -211,6 +211,7 @@ fn answers(line: &[u8], input: &[u8], past: &mut [u8]) -> u64
     repeat(line, times, d)
 }
 
+// A write that fails is passed over.
 fn say_line(rt: &impl Print, line: &[u8], sum: u64)
     requires { 11 ≤ length line.now }
 {

@@ -257,6 +257,7 @@ fn outside_that_differ() -> u64 {
         + outside(2147483647)
 }
 
+// A write that fails is passed over, here and below.
 fn write(rt: &impl Print, text: &[u8]) {
     let _ = rt.write_all(text);
 }

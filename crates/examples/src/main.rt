@@ -10,6 +10,7 @@ use layout::{Entry, Numbers};
 use sheet::Reading;
 use writer::Written;
 
+// A write that fails is passed over, here and below.
 fn say(rt: &impl Print, text: &[u8]) {
     let _ = rt.write_all(text);
 }

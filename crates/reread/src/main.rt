@@ -140,7 +140,7 @@ fn put_sheet(line: &mut [u8], s: &[u8]) -> usize {
     }
 }
 
-// The line goes out in one piece.
+// The line goes out in one piece. A write that fails is passed over.
 fn say(rt: &impl Print, line: &[u8], len: usize) {
     if len <= line.len() {
         let _ = rt.write_all(&line[..len]);

@@ -1,4 +1,5 @@
-// What comes of a call, printed: a line for each answer, and whether it is a refusal.
+// What comes of a call, printed: a line for each answer, and whether it is a refusal. A write that
+// fails is passed over.
 use book::{Added, Back, Counted, Found};
 use content::Content;
 

@@ -1,5 +1,5 @@
-// What the program of a word of `./register` stands on: how it gets at its files, and how it gives
-// its answer. docs/WORKING.md, "A word of ./register".
+// What a program stands on that reads or answers, that of a word of `./register` above all: how it
+// gets at its files, and how it gives its answer. docs/WORKING.md, "A word of ./register".
 //
 // Started by `./register`, a program has the word as argument 1 and the word's own arguments behind
 // it. Without argument 1 it was started alone: it reads standard input and prints, and no more.
@@ -66,7 +66,7 @@ pub fn read(rt: &(impl Env + Files + io::Input + Eprint + Alloc), i: usize, buf:
 }
 
 // Reads until the input ends, buf is full or a read fails, and answers how many bytes came, and
-// whether all reads went well.
+// whether no read failed.
 pub fn read_all(from: &mut impl Read, buf: &mut [u8]) -> (usize, io::Result<()>)
     ensures { result.0 ≤ length buf.new }
 {
