@@ -9,6 +9,7 @@ import queue
 import re
 import shutil
 import subprocess
+import tempfile
 
 ROOT = pathlib.Path(__file__).resolve().parent.parent
 TOKEN = re.compile(r'//[^\n]*|"(?:\\.|[^"\\])*"|b?\'(?:\\.|[^\'\\])\'|[A-Za-z_]\w*|\d\w*|->|=>|==|!=|<=|>=|<<|>>|&&|\|\||::|\.\.|[+\-*/%&|^]=|\s+|.')
@@ -19,6 +20,7 @@ ONLY_CALLS = re.compile(r'no proof: it calls .*, which (?:is|are) not proved')
 ERROR = re.compile(r'^(?:note: )?(?:\./)?((?:src|specs|proofs)/\S+?:\d+):\d+: (?:error(?:\[[\w-]+\])?: (.*)|(it is not proved that .*))$', re.M)
 NOT_CODE = re.compile(r'^(?:\./)?(src/\S+?:\d+):\d+: error\[[\w-]+\]: ', re.M)
 VERDICT = re.compile(r'^logic=(proved|not-proved)', re.M)
+MADE = ('Code/Mir.antt', 'Goals.antt', 'Lts.antt', 'Lts/View.antt')
 UNTOLD = re.compile(r'^fn \S+: could not tell|^rattle: no verdict', re.M)
 
 
@@ -126,24 +128,36 @@ def batches(edits):
     return groups
 
 
-def checked(copies, edits):
-    """What `rt check` prints of the crate with these edits, made in a copy that nobody else uses and taken back afterwards. It begins with
-    what was proved of the crate as it is."""
-    copy, crate = copies.get(), edits[0].crate
+def checked(copies, edits, crate, *flags, proofs=None):
+    """What `rt check` prints of the crate with these edits, and with other files of proofs where they are given, made in a copy that
+    nobody else uses and taken back afterwards. It begins with what was proved of the crate as it is."""
+    copy = copies.get()
     folder = copy / 'crates' / crate
-    kept = {path: (copy / path).read_text() for path in {edit.path for edit in edits}}
+    texts = {edit.path: (copy / edit.path).read_text() for edit in edits}
+    texts = {path: (text, replaced(text, [change for edit in edits if edit.path == path for change in edit.changes])) for path, text in texts.items()}
+    texts.update((path, ((copy / path).read_text(), text)) for path, text in (proofs or {}).items())
     try:
         shutil.rmtree(folder / 'out' / 'incremental', ignore_errors=True)
         proved = copies.proved / 'crates' / crate / 'out' / 'incremental'
         if proved.is_dir():
             shutil.copytree(proved, folder / 'out' / 'incremental', copy_function=linked)
-        for path, text in kept.items():
-            (copy / path).write_text(replaced(text, [change for edit in edits if edit.path == path for change in edit.changes]))
-        return rt(folder, 'check', '--jobs', '1').stdout
+        for path, (_, text) in texts.items():
+            (copy / path).write_text(text)
+        return rt(folder, 'check', '--jobs', '1', *flags).stdout
     finally:
-        for path, text in kept.items():
+        for path, (text, _) in texts.items():
             (copy / path).write_text(text)
         copies.put(copy)
+
+
+def generated(copies, edits, crate, functions):
+    """What the check makes of each of these functions with these edits: the code and the goals of its proof, by the names of the files."""
+    if not functions:
+        return {}
+    with tempfile.TemporaryDirectory(dir=copies.proved.parent) as to:
+        checked(copies, edits, crate, '--generated', to, *(word for name in functions for word in ('--start', name)))
+        folders = {name: pathlib.Path(to, f'Rattle-{crate}-proofs', *name.split('::')[1:]) for name in functions}
+        return {name: {file: (folder / file).read_text() if (folder / file).is_file() else '' for file in MADE} for name, folder in folders.items()}
 
 
 def is_sure(said):
@@ -199,7 +213,7 @@ class Copies(queue.Queue):
 
     def __init__(self, room, names, jobs):
         super().__init__()
-        self.proved = room / 'proved'
+        self.proved, self.made = room / 'proved', {}  # the copy that is as it is, and what the check makes of functions there
         below, rows = crates(), []
         wanted = {it for name in names for it in [name, *below[name]]}
         for line in (ROOT / 'crates.txt').read_text().splitlines():
