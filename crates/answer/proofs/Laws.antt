@@ -1,13 +1,13 @@
 -- Laws of `answer` and `leaves` (specs/Answer.antt), the same for every call.
---   answered-only-if, answered-if, changed-if      a call is carried out exactly if no rule applies
---   refused-only-if, refused-if, unchanged-if      it is refused with k exactly if the first rule that applies has the number k, and
+--   answered_only_if, answered_if, changed_if      a call is carried out exactly if no rule applies
+--   refused_only_if, refused_if, unchanged_if      it is refused with k exactly if the first rule that applies has the number k, and
 --                                                  changes nothing then
---   silent-if-0, first-if-number, number-of-first, number-of-silent      what the number of the first rule that applies says
---   numbered-both, first-of-both, second-of-both, number-of-both      rules that are tested in two parts
---   gives, gives-such, either_way                  whether the number that is given is such a number, as a test that computes on a list of rules: with
+--   silent_if_0, first_if_number, number_of_first, number_of_silent      what the number of the first rule that applies says
+--   numbered_both, first_of_both, second_of_both, number_of_both      rules that are tested in two parts
+--   gives, gives_such, either_way                  whether the number that is given is such a number, as a test that computes on a list of rules: with
 --                                                  `simp` and what is known of some of them, wherever they stand in the list
---   first-that-applies : EveryCallAnswers, refused-changes-nothing : RefusedChangesNothing (specs/Promises.antt)
---   refused-is-not-answered                        a refusal is no other answer
+--   first_that_applies : EveryCallAnswers, refused_changes_nothing : RefusedChangesNothing (specs/Promises.antt)
+--   refused_is_not_answered                        a refusal is no other answer
 --   apart, again                                   answers have different meanings: shown by a function, mostly `again`, that finds the answer
 -- Assumes nothing.
 use mathlib.Core.Path.{◌≡◌, refl, sym, ap, ◌∙◌}

@@ -1,8 +1,8 @@
 -- Laws of `laid`, `went_of` and `AppliesEntries` (specs/Applying.antt).
 --   Every                                      what holds of every entry of a list
---   laid-length, laid-append                   the array keeps its length; entries laid after others are laid on what those left
---   laid_kept, laid-every                      a place that no entry goes to keeps what it had; what holds of a place and of every value laid holds after
---   went-within                                no more went than there are
+--   laid_length, laid_append                   the array keeps its length; entries laid after others are laid on what those left
+--   laid_kept, laid_every                      a place that no entry goes to keeps what it had; what holds of a place and of every value laid holds after
+--   went_within                                no more went than there are
 --   GoneSoFar                                  the loop over a sheet's entries: the whole is what went so far, and the rest
 --   applyings                                  a set for `search`: that loop begun, turned and ended, and a call whose bytes end too early
 -- Assumes nothing.

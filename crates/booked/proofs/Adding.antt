@@ -1,7 +1,7 @@
 -- What specs/Adding.antt states of adding.
---   added-to : AddedTo adding02, added-lookup : AddedLookup adding02 lookupOf
---   add-refused : AddRefused adding02, adds-if : AddsIf adding02
---   good-with-one-more : GoodWithOneMore, none-after-the-last : NoneAfterTheLast adding02
+--   added_to : AddedTo adding02, added_lookup : AddedLookup adding02 lookup_of
+--   add_refused : AddRefused adding02, adds_if : AddsIf adding02
+--   good_with_one_more : GoodWithOneMore, none_after_the_last : NoneAfterTheLast adding02
 -- Assumes nothing.
 use mathlib.Core.Path.{◌≡◌, refl, sym, ap, ◌∙◌, subst}
 use mathlib.Core.Logic.{◌⊎◌, inl, inr}

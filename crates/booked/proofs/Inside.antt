@@ -1,5 +1,5 @@
 -- What specs/Inside.antt states, by computing.
---   a-sheet-inside : ASheetInside
+--   a_sheet_inside : ASheetInside
 -- Assumes nothing.
 use mathlib.Core.Path.{refl}
 use native.Mathlib.Omega.{arith}

@@ -1,7 +1,7 @@
 -- What specs/Laid.antt states of the content that a lookup finds.
---   laid-is-taken : LaidIsTaken
---   found-is-laid : FoundIsLaid lookupOf
---   no-entry-is-blank : NoEntryIsBlank lookupOf
+--   laid_is_taken : LaidIsTaken
+--   found_is_laid : FoundIsLaid lookup_of
+--   no_entry_is_blank : NoEntryIsBlank lookup_of
 -- Assumes nothing.
 use mathlib.Core.Path.{◌≡◌, refl, sym, ap, ◌∙◌}
 use mathlib.Core.Bool.{true}

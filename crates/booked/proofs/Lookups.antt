@@ -1,7 +1,7 @@
 -- What specs/Lookups.antt states of a lookup.
---   last-sheet-with : LastSheetWith lookupOf
---   lookup-refuses : LookupRefuses lookupOf
---   no-bytes-have-64-cells : NoBytesHave64Cells lookupOf
+--   last_sheet_with : LastSheetWith lookup_of
+--   lookup_refuses : LookupRefuses lookup_of
+--   no_bytes_have_64_cells : NoBytesHave64Cells lookup_of
 -- Assumes nothing.
 use mathlib.Core.Path.{◌≡◌, refl, sym, ◌∙◌}
 use mathlib.Core.Bool.{true, false}

@@ -1,7 +1,7 @@
 -- What specs/OfARun.antt states of the book of a run.
---   runs-book-is-good : RunsBookIsGood goodBook
---   each-is-added : EachIsAdded adding02
---   last-sent : LastSent lookupOf
+--   runs_book_is_good : RunsBookIsGood good_book
+--   each_is_added : EachIsAdded adding02
+--   last_sent : LastSent lookup_of
 -- Assumes nothing.
 use mathlib.Core.Path.{◌≡◌, sym, ap, ◌∙◌}
 use mathlib.Core.Bool.{true}

@@ -1,8 +1,8 @@
 -- What specs/OneList.antt states.
---   sheets-are-the-book : SheetsAreTheBook, one_list : OneList
---   good-exactly : GoodExactly goodBook
---   no-bytes-are-good : NoBytesAreGood goodBook, any-first-number : AnyFirstNumber goodBook
---   counts-them : CountsThem count_of
+--   sheets_are_the_book : SheetsAreTheBook, one_list : OneList
+--   good_exactly : GoodExactly good_book
+--   no_bytes_are_good : NoBytesAreGood good_book, any_first_number : AnyFirstNumber good_book
+--   counts_them : CountsThem count_of
 -- Assumes nothing.
 use mathlib.Core.Path.{◌≡◌, refl, sym, ap, ◌∙◌}
 use mathlib.Core.Bool.{Bool, true, false}

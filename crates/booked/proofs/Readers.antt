@@ -1,6 +1,6 @@
 -- What specs/Readers.antt states of a reader: its steps are those of `GivesBack`, on what its slice
 -- holds.
---   reads-through : ReadsThrough
+--   reads_through : ReadsThrough
 -- Assumes nothing.
 use mathlib.Core.Path.{◌≡◌, refl, sym, subst}
 use mathlib.Core.Bool.{true}

@@ -1,6 +1,6 @@
 -- That the statements of this crate settle the calls, as specs/Settled.antt states it.
 --   settled : Settled
---   found-newest                   what a lookup that meets `LastSheetWith` finds in a good book
+--   found_newest                   what a lookup that meets `LastSheetWith` finds in a good book
 -- Assumes nothing.
 use mathlib.Core.Path.{◌≡◌, refl, sym, ap, ◌∙◌}
 use mathlib.Core.Logic.{inl, inr}

@@ -1,9 +1,9 @@
 -- What specs/Stepping.antt states of a step, and of stepping back through a book.
---   sheet-is-not-none              a step that gives a sheet does not give none
---   step_gives : StepGives stepBack, step-none : StepNone stepBack
---   none-at-the-front : NoneAtTheFront stepBack, after-a-step : AfterAStep placeAfter
---   steps-through : StepsThrough stepBack placeAfter
---   steps-once : StepsOnce
+--   sheet_is_not_none              a step that gives a sheet does not give none
+--   step_gives : StepGives step_back, step_none : StepNone step_back
+--   none_at_the_front : NoneAtTheFront step_back, after_a_step : AfterAStep place_after
+--   steps_through : StepsThrough step_back place_after
+--   steps_once : StepsOnce
 -- Assumes nothing.
 use mathlib.Core.Path.{◌≡◌, refl, sym, ap, ◌∙◌, subst}
 use mathlib.Core.Bool.{true}

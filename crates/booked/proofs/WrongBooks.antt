@@ -1,6 +1,6 @@
 -- The books of specs/WrongBooks.antt by computing, and of each wrong call the statement that is
 -- false of it.
---   each-bites : EachBites
+--   each_bites : EachBites
 -- Assumes nothing.
 use mathlib.Core.Path.{◌≡◌, refl, sym, ap, ◌∙◌}
 use mathlib.Core.Logic.{inr}

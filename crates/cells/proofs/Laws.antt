@@ -1,8 +1,8 @@
 -- Laws of the places of a record's arrays (specs/Cells.antt).
 --   places                                  a set for `search`: one place read, and one put, by each test of the code
---   place-put, place_kept, place-length     what stands in a place after a put, and how long the array is
---   each_at, each-if, each_both             what a test of each place says of one
---   some_at, some-if                        what a test of some place says
+--   place_put, place_kept, place_length     what stands in a place after a put, and how long the array is
+--   each_at, each_if, each_both             what a test of each place says of one
+--   some_at, some_if                        what a test of some place says
 --   AnySoFar, CountSoFar and their laws     the two loops over the places
 -- Assumes nothing.
 use Prim.Native.Nat.{ℕ, zero, suc, ◌+◌, ◌≤◌, ◌<◌}

@@ -1,5 +1,5 @@
 -- Demand 2 (specs/Demand2.antt), proved of document 01's calls.
---   demand-2 : Demand2 document01
+--   demand_2 : Demand2 document01
 -- Assumes nothing.
 use Rattle.desk.specs.Calls.{document01}
 use Rattle.writer.proofs.RoundTrip.{written_reads_back, read_writes_back}

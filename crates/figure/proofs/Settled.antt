@@ -1,7 +1,7 @@
 -- What demand 2 settles (specs/Settled.antt), proved: a call's rules say whether it is refused, a piece of Figure 1 has one end, a sound
 -- record is settled by its process and the rest, and bytes by what they read as.
---   demand-2-settles : Demand2Settles
---   met-by-01-alone : MetBy01Alone
+--   demand_2_settles : Demand2Settles
+--   met_by_01_alone : MetBy01Alone
 -- Assumes nothing.
 use mathlib.Core.Path.{◌≡◌, refl, sym, ap, ◌∙◌, subst}
 use mathlib.Core.Bool.{not}

@@ -1,7 +1,7 @@
 -- What specs/Promises.antt states, and what proofs/Laws/Kept.antt does, from the laws of each call (proofs/Laws).
---   sends-fit : SendsFit, lent-stays-long : LentStaysLong          the bytes that are lent to a call
---   open-is-sound : OpenIsSound, keeps-sound : KeepsSound          a record is sound from its open on
---   keeps-fits : KeepsFits                                         and fits
+--   sends_fit : SendsFit, lent_stays_long : LentStaysLong          the bytes that are lent to a call
+--   open_is_sound : OpenIsSound, keeps_sound : KeepsSound          a record is sound from its open on
+--   keeps_fits : KeepsFits                                         and fits
 --   numbers_stay : NumbersStay                                     n, m, own number and mode stay; the turn number goes up by 1 or stays
 -- Assumes nothing.
 use mathlib.Core.Path.{sym, ap, ◌∙◌, subst}

@@ -1,9 +1,9 @@
 -- Laws of `laid_over` (specs/Laying.antt).
---   drop-take                      a part of a list is the same, cut from the front or from the end first
+--   drop_take                      a part of a list is the same, cut from the front or from the end first
 --   laid, no_room                  with room the bytes are laid; without it nothing is
 --   laid_next                      what is laid right behind what was laid at the front is laid at the front too: two puts are one
---   laid-behind                    the same anywhere in a buffer: what is laid right behind what was laid is laid with it
---   PutSoFar, put-begun, put-turned, put_ended    the loop that lays bytes
+--   laid_behind                    the same anywhere in a buffer: what is laid right behind what was laid is laid with it
+--   PutSoFar, put_begun, put_turned, put_ended    the loop that lays bytes
 -- Assumes nothing.
 use mathlib.Core.Path.{◌≡◌, refl, sym, ap, ◌∙◌}
 use mathlib.Core.List.{List, [], ◌∷◌, ◌++◌, append_assoc}

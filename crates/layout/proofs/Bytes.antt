@@ -1,8 +1,8 @@
 -- Lists that are bytes (`AreBytes`, specs/Values.antt), for whoever makes them of others.
---   are-bytes                      a list of which every element is a byte
---   number-bytes, zeros-bytes      the bytes of a number, and zeros
---   append-bytes                   bytes behind bytes
---   front_bytes, back-bytes        what bytes begin with, and what is left of them
+--   are_bytes                      a list of which every element is a byte
+--   number_bytes, zeros_bytes      the bytes of a number, and zeros
+--   append_bytes                   bytes behind bytes
+--   front_bytes, back_bytes        what bytes begin with, and what is left of them
 -- Assumes nothing.
 use mathlib.Core.List.{List, [], ◌∷◌, ◌++◌}
 use Prim.Native.Nat.{ℕ, zero, suc, ◌+◌}

@@ -1,9 +1,9 @@
 -- Laws of the layout (specs/Layout.antt).
---   entries-count, entry-of-entries    the entries that bytes begin with, one by one
---   entries-length, sheet-length       how long entries and a sheet are
---   entries-back, trailer-back         what was written as bytes is what the bytes hold
---   sheet-again                        bytes that hold as many entries as they say are the sheet of what they hold
---   contents-apart : ContentsApart, content-in-entry : ContentInEntry, open-meets-no-day : OpenMeetsNoDay (specs/Promises.antt)
+--   entries_count, entry_of_entries    the entries that bytes begin with, one by one
+--   entries_length, sheet_length       how long entries and a sheet are
+--   entries_back, trailer_back         what was written as bytes is what the bytes hold
+--   sheet_again                        bytes that hold as many entries as they say are the sheet of what they hold
+--   contents_apart : ContentsApart, content_in_entry : ContentInEntry, open_meets_no_day : OpenMeetsNoDay (specs/Promises.antt)
 -- Assumes nothing.
 use mathlib.Core.Path.{◌≡◌, refl, sym, ap, ◌∙◌}
 use mathlib.Core.List.{List, [], ◌∷◌, ◌++◌}

@@ -1,8 +1,8 @@
 -- What `rounds` prints of a step can be read back, so no two lines are printed alike (specs/Printed.antt).
---   lines-printed-apart : LinesPrintedApart
---   contents-printed-apart : ContentsPrintedApart
---   never-alike : NeverAlike
---   saidStepAnswer-tells-apart : StepAnswersApart (specs/Promises.antt)
+--   lines_printed_apart : LinesPrintedApart
+--   contents_printed_apart : ContentsPrintedApart
+--   never_alike : NeverAlike
+--   said_step_answer_tells_apart : StepAnswersApart (specs/Promises.antt)
 -- What an answer carries is read off the front of its words, number by number (`number_then`) and content by content (`content_or`), and the first word
 -- says which answer it is (`by_word`).
 -- Assumes nothing.
@@ -113,7 +113,10 @@ SaysWaited o ws = (turn entries applied : ℕ) → taken_then turn entries appli
 waited_printed : (o : Option Content) → WaitedFits o → Printed (waited_text o) (SaysWaited o)
 unfolding taken_then content_or is
 waited_printed none fits = record { first = text "-"; rest = []; text_is = refl; words_free = refl; says = λ turn entries applied. refl }
-waited_printed (some c) fits = so_too (λ ws says turn entries applied. says _ _) (content_printed c fits)
+waited_printed (some c) fits =
+    so_too
+    (λ ws says turn entries applied. says (λ c. answers_with (taken turn entries applied (some c))) (λ w ws. answers_with (taken turn entries applied none)))
+    (content_printed c fits)
 
 abbrev Says : StepAnswer → List (List ℕ) → Type 0
 Says a ws = answer_back ws ≡ a
@@ -139,7 +142,7 @@ printed (of_call (refused k)) fits =
     }
 printed (of_call (answered opened)) fits = alone _ (text "opened") refl refl refl
 printed (of_call (answered stored)) fits = alone _ (text "stored") refl refl refl
-printed (of_call (answered (holds c))) fits = so_too (λ ws says. says _ _) (content_printed c fits)
+printed (of_call (answered (holds c))) fits = so_too (λ ws says. says (λ c. answers_with (holds c)) by_word) (content_printed c fits)
 printed (of_call (answered waits)) fits = alone _ (text "waits") refl refl refl
 printed (of_call (answered (sent turn entries))) fits =
     record {

@@ -1,5 +1,5 @@
 -- Lines as 01 has them written (specs/Samples.antt), each by computing.
---   each-form-reads : EachForm, edges-read : AtTheEdges, other-forms : OtherForms, other-starts : OtherStarts
+--   each_form_reads : EachForm, edges_read : AtTheEdges, other_forms : OtherForms, other_starts : OtherStarts
 -- Assumes nothing.
 use mathlib.Core.Path.{refl}
 use Rattle.text.specs.Separated.{parts}

@@ -1,8 +1,8 @@
 -- A line is read as line 1 exactly if it is the line of a start within the limits (specs/Promises.antt).
---   starts-are-in-range : StartsAreInRange
---   one-line-per-start : OneLinePerStart
---   every-start-has-a-line : EveryStartHasALine
---   saidStart-tells-apart : StartsApart
+--   starts_are_in_range : StartsAreInRange
+--   one_line_per_start : OneLinePerStart
+--   every_start_has_a_line : EveryStartHasALine
+--   said_start_tells_apart : StartsApart
 -- Assumes nothing.
 use mathlib.Core.Path.{◌≡◌, refl, sym, ap, ◌∙◌, subst}
 use mathlib.Core.List.{List, [], ◌∷◌}

@@ -1,10 +1,10 @@
 -- A line says a step exactly if it is the line of a step within the limits (specs/Promises.antt).
---   steps-are-in-range : StepsAreInRange
---   one-line-per-step : OneLinePerStep
---   every-step-has-a-line : EveryStepHasALine
---   no-step-of-cut           a cut line says none
---   saidAct-tells-apart : ActsApart
---   saidStep-tells-apart : StepsApart
+--   steps_are_in_range : StepsAreInRange
+--   one_line_per_step : OneLinePerStep
+--   every_step_has_a_line : EveryStepHasALine
+--   no_step_of_cut           a cut line says none
+--   said_act_tells_apart : ActsApart
+--   said_step_tells_apart : StepsApart
 -- Assumes nothing.
 use mathlib.Core.Path.{◌≡◌, refl, sym, ap, ◌∙◌, subst}
 use mathlib.Core.List.{List, [], ◌∷◌}

@@ -1,14 +1,14 @@
 -- Laws of words: how each is written that reads as something, and that what is written reads back.
 --   apart                                   0 is not 1: what follows where two constructors would be equal
---   free, all-free, words-spaced            words without spaces, spaced, are the words of that line
---   words-ended                             and of what begins with that line and a line feed, of its first line
---   spaced-words                            the words of a line, spaced, are the line
---   word-is                                 a word that is this text
---   number-most, number_word                a word that reads as a number: the number has 32 bits, and the word is what is printed of it
---   desk-below, desk-word                   the same of a desk, which is there
---   content-read                            the same of a content, which is not blank
---   number-back, number-free, number-said, desk-said    what is printed of a number is a number, and of a desk a desk
---   content-said                            what is written of a content reads as that content
+--   free, all_free, words_spaced            words without spaces, spaced, are the words of that line
+--   words_ended                             and of what begins with that line and a line feed, of its first line
+--   spaced_words                            the words of a line, spaced, are the line
+--   word_is                                 a word that is this text
+--   number_most, number_word                a word that reads as a number: the number has 32 bits, and the word is what is printed of it
+--   desk_below, desk_word                   the same of a desk, which is there
+--   content_read                            the same of a content, which is not blank
+--   number_back, number_free, number_said, desk_said    what is printed of a number is a number, and of a desk a desk
+--   content_said                            what is written of a content reads as that content
 -- Assumes nothing.
 use mathlib.Core.Path.{◌≡◌, refl, sym, ap, ◌∙◌, subst}
 use mathlib.Core.List.{List, [], ◌∷◌, ◌++◌}

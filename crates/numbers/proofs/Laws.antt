@@ -1,6 +1,6 @@
 -- Laws of `num` and `bytes`: numbers to bytes and back, once for every count of bytes.
---   bytes-are                    that they are bytes
---   num-bytes, bytes-num         a number's bytes make the number; the bytes of what bytes make are those bytes
+--   bytes_are                    that they are bytes
+--   num_bytes, bytes_num         a number's bytes make the number; the bytes of what bytes make are those bytes
 -- Assumes nothing.
 use mathlib.Core.Path.{◌≡◌, refl}
 use mathlib.Core.List.{List, [], ◌∷◌}

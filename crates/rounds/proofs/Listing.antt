@@ -1,6 +1,6 @@
 -- Document 01's listing (specs/Listing.antt).
 --   listing : Listing                         by computing
---   listing-is-a-run : ListingIsARun          as every schedule that starts
+--   listing_is_a_run : ListingIsARun          as every schedule that starts
 -- Assumes nothing.
 use mathlib.Core.Path.{refl}
 use mathlib.Core.List.{List}

@@ -1,6 +1,6 @@
 -- The steps of a schedule are calls of the run of demand 3 (specs/Promises.antt).
---   first-as-all : FirstAsAll
---   schedules-are-runs : SchedulesAreRuns
+--   first_as_all : FirstAsAll
+--   schedules_are_runs : SchedulesAreRuns
 -- Assumes nothing.
 use Prim.Native.Nat.{ℕ, suc, ◌+◌, ◌<◌}
 use mathlib.Core.Path.{◌≡◌, refl, ap, ◌∙◌, subst}

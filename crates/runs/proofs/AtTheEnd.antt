@@ -1,6 +1,6 @@
 -- What specs/AtTheEnd.antt states of a desk at its end, and of the others: the rules before 10 are off, and `going`.
---   nothing-breaks : NothingBreaks
---   others-go-on : OthersGoOn
+--   nothing_breaks : NothingBreaks
+--   others_go_on : OthersGoOn
 -- Assumes nothing.
 use Prim.Native.Nat.{ℕ, ◌<◌}
 use mathlib.Core.Path.{◌≡◌, refl, sym, ap, ◌∙◌}

@@ -1,9 +1,9 @@
 -- What specs/EveryRun.antt states of every run, from the invariant.
---   every-desk-opens : EveryDeskOpens
---   records-as-opened : RecordsAsOpened
---   sheets-in-order : SheetsInOrder
---   not-far-ahead : NotFarAhead
---   these-never-come : TheseNeverCome
+--   every_desk_opens : EveryDeskOpens
+--   records_as_opened : RecordsAsOpened
+--   sheets_in_order : SheetsInOrder
+--   not_far_ahead : NotFarAhead
+--   these_never_come : TheseNeverCome
 -- Assumes nothing.
 use mathlib.Core.Path.{refl}
 use native.Mathlib.Omega.{arith}

@@ -1,5 +1,5 @@
 -- Demand 3 (specs/TurnRules.antt) of document 01's calls: after every run all is in order, and then each part follows.
---   turn-rules : Demand3 document01
+--   turn_rules : Demand3 document01
 -- Assumes nothing.
 use Prim.Native.Nat.{ℕ, ◌+◌, ◌%◌, ◌≤◌, ◌<◌}
 use mathlib.Core.Path.{◌≡◌, refl, sym, ap, ◌∙◌}

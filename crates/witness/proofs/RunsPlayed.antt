@@ -1,6 +1,6 @@
 -- The runs of specs/RunsPlayed.antt, by computing; that a desk can take comes from `can_take`.
---   runs-played : RunsPlayed
---   on-two, on-three      calls of which a test that computes says that they are a run on two desks, or on three
+--   runs_played : RunsPlayed
+--   on_two, on_three      calls of which a test that computes says that they are a run on two desks, or on three
 -- Assumes nothing.
 use mathlib.Core.Path.{◌≡◌, refl, sym, ◌∙◌}
 use mathlib.Core.Bool.{true, false, not, ◌&&◌, false≢true}

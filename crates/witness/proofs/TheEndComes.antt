@@ -1,5 +1,5 @@
 -- The end of the turn numbers comes (specs/TheEndComes.antt): two desks that send and take in turn get there, one turn number after the other.
---   the-end-comes : TheEndComes
+--   the_end_comes : TheEndComes
 -- Assumes nothing.
 use Prim.Native.Nat.{ℕ, zero, suc, ◌+◌, ◌%◌, ◌≤◌, ◌<◌}
 use mathlib.Core.Path.{◌≡◌, refl, ap, ◌∙◌, sym}

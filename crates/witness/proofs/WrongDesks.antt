@@ -1,7 +1,7 @@
 -- The wrong desks and the slips do not meet demand 2 (specs/WrongDesks.antt): calls that meet it are document 01's (`met_by_01_alone`,
 -- crates/figure/specs/Settled.antt), and for each of these there is an input of which they make something else, found by computing.
---   wrong-desks-shut-out : WrongDesksShutOut
---   slips-shut-out : SlipsShutOut
+--   wrong_desks_shut_out : WrongDesksShutOut
+--   slips_shut_out : SlipsShutOut
 -- Assumes nothing.
 use mathlib.Core.Path.{◌≡◌, refl, sym, ap, ◌∙◌}
 use mathlib.Core.Bool.{Bool, true, ◌&&◌}

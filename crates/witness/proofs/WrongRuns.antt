@@ -1,5 +1,5 @@
 -- The runs of specs/WrongRuns.antt by computing, and after each the part of the demand that is false.
---   each-part-bites : EachPartBites
+--   each_part_bites : EachPartBites
 -- Assumes nothing.
 use mathlib.Core.Path.{◌≡◌, refl, sym, ◌∙◌}
 use mathlib.Core.Logic.{◌⊎◌, inl, inr}

@@ -1,6 +1,6 @@
 -- Demand 2's two statements on sheets (specs/Promises.antt), proved.
---   written-reads-back : WrittenReadsBack
---   read-writes-back : ReadWritesBack
+--   written_reads_back : WrittenReadsBack
+--   read_writes_back : ReadWritesBack
 -- Assumes nothing.
 use mathlib.Core.Path.{◌≡◌, sym, ap, ◌∙◌}
 use mathlib.Core.List.{List, [], ◌∷◌, ◌++◌}

@@ -1,4 +1,4 @@
--- answers-apart : AnswersApart (specs/Promises.antt).
+-- answers_apart : AnswersApart (specs/Promises.antt).
 -- Assumes nothing.
 use mathlib.Core.Path.{◌≡◌, refl}
 use Rattle.answer.proofs.Laws.{again, apart}

@@ -1,6 +1,6 @@
 -- Laws of the calls (specs/Counting.antt, specs/Lookup.antt, specs/Adding.antt), by what one pass
 -- through the book finds.
---   told-bad, told-empty, told-sheets      what it says of the book
+--   told_bad, told_empty, told_sheets      what it says of the book
 --   goods, counts, finds, lookups, addings sets for `search`: what each call knows at each of its returns, and what it answers
 -- Assumes nothing.
 use mathlib.Core.Path.{◌≡◌, refl, sym, ap, ◌∙◌}

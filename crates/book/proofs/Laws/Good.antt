@@ -1,6 +1,6 @@
 -- Laws of `good_sheets` (specs/Good.antt).
---   good-is-before                 sheets are good exactly if the newest is, and those before it fit it, one after the other, as the code goes back
---   good-behind                    a good sheet behind bytes: what makes the whole good
+--   good_is_before                 sheets are good exactly if the newest is, and those before it fit it, one after the other, as the code goes back
+--   good_behind                    a good sheet behind bytes: what makes the whole good
 -- Assumes nothing.
 use mathlib.Core.Path.{◌≡◌, refl, ap, ◌∙◌}
 use mathlib.Core.Bool.{Bool, true, ◌&&◌}

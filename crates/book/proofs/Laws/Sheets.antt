@@ -1,8 +1,8 @@
 -- Laws of `sheets_of` (specs/Sheets.antt).
---   start-within, before-long      where the last sheet starts, and how long what stands before it is
---   sheets-none, sheets-cut        no bytes have no sheets; other bytes have a last sheet, and those of what stands before it
---   sheets-few                     no more sheets than bytes
---   sheets-behind                  a good sheet behind bytes is the last of them, whatever they are
+--   start_within, before_long      where the last sheet starts, and how long what stands before it is
+--   sheets_none, sheets_cut        no bytes have no sheets; other bytes have a last sheet, and those of what stands before it
+--   sheets_few                     no more sheets than bytes
+--   sheets_behind                  a good sheet behind bytes is the last of them, whatever they are
 -- Assumes nothing.
 use mathlib.Core.Path.{◌≡◌, refl, sym, ap, ◌∙◌}
 use mathlib.Core.Bool.{Bool, true, false, cond}

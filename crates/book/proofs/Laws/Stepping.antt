@@ -1,10 +1,10 @@
 -- Laws of `step_back` (specs/Stepping.antt).
---   part-is                        the last sheet up to a place is a part of the book
---   step-sheet, step-none          what a step gives, by `good` alone
---   steps, step-good, step-bad     the code of a step: a set for `search`, and what it answers when the sheet was read
---   step-known, step-untested      what it answers where the sheet is known to be good
+--   part_is                        the last sheet up to a place is a part of the book
+--   step_sheet, step_none          what a step gives, by `good` alone
+--   steps, step_good, step_bad     the code of a step: a set for `search`, and what it answers when the sheet was read
+--   step_known, step_untested      what it answers where the sheet is known to be good
 --   Stepped, stepped               what is so where a step gave a sheet: it is the last of those up to the place, and the others end at its start
---   stepped-none                   where it gave none within the book, the last sheet up to the place is not good
+--   stepped_none                   where it gave none within the book, the last sheet up to the place is not good
 -- Assumes nothing.
 use mathlib.Core.Path.{◌≡◌, refl, sym, ap, ◌∙◌, subst}
 use mathlib.Core.Bool.{Bool, true, false, not, ◌&&◌, and-false}

@@ -1,8 +1,8 @@
 -- Laws of `entry_on` (crates/book/specs/Lookup.antt), by the entries that a sheet has.
---   every_in, sheet-in         what a test says of every entry, and of every sheet, it says of one
---   later-above                entries that rise: those behind one have higher cells
---   has-entry, has-none        what is found a sheet has; where none is found it has none
---   found-entry, found_none    what a good sheet has is found; where it has none, none is
+--   every_in, sheet_in         what a test says of every entry, and of every sheet, it says of one
+--   later_above                entries that rise: those behind one have higher cells
+--   has_entry, has_none        what is found a sheet has; where none is found it has none
+--   found_entry, found_none    what a good sheet has is found; where it has none, none is
 -- Assumes nothing.
 use mathlib.Core.Path.{◌≡◌, refl, sym, ap, ◌∙◌, subst}
 use mathlib.Core.Bool.{Bool, true, false, cond}

@@ -1,6 +1,6 @@
 -- Laws of `laid_all` (specs/Laid.antt).
---   laid-at                    a place after one sheet: the value of its entry, or what it had
---   laid-all                   a place after all sheets: the content that is found
+--   laid_at                    a place after one sheet: the value of its entry, or what it had
+--   laid_all_lem                   a place after all sheets: the content that is found
 -- Assumes nothing.
 use mathlib.Core.Path.{◌≡◌, refl, sym, ap, ◌∙◌}
 use mathlib.Core.Bool.{Bool, true, false}

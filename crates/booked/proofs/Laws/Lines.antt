@@ -1,9 +1,9 @@
 -- Laws of `book_of` and `newest_first` (specs/OfARun.antt), of any line whose sheets are in order.
---   book-suc                   the book of one sheet more
---   line-good, line-sheets     the first k sheets are good together, and are those of their book
---   line-cells                 and have the shelf's cells
---   SetBy, set-by              the entry that is found among them
---   none-set, if-none-set      that none is found, exactly if none has one
+--   book_suc                   the book of one sheet more
+--   line_good, line_sheets     the first k sheets are good together, and are those of their book
+--   line_cells                 and have the shelf's cells
+--   SetBy, set_by              the entry that is found among them
+--   none_set, if_none_set      that none is found, exactly if none has one
 -- Assumes nothing.
 use mathlib.Core.Path.{◌≡◌, refl, sym, ap, ◌∙◌, subst}
 use mathlib.Core.Bool.{Bool, true, false}

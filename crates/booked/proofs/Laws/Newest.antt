@@ -1,10 +1,10 @@
 -- Laws of `newest` and `lookup_of` (crates/book/specs/Lookup.antt).
---   newest-here, newest-older  what is found, by whether the newest sheet has an entry for the cell
---   newest-entry, newest-is    what is found is the newest entry, and that is found
---   newest-blank, blank-newest blank exactly if no sheet has one
---   in-book                    the sheet of the newest entry is one of the book's
---   Looked, looked, looked-up  what is so where a lookup is answered; and that it is
---   cells-within               a good book has 64 cells at most
+--   newest_here, newest_older  what is found, by whether the newest sheet has an entry for the cell
+--   newest_entry, newest_is    what is found is the newest entry, and that is found
+--   newest_blank, blank_newest blank exactly if no sheet has one
+--   in_book                    the sheet of the newest entry is one of the book's
+--   Looked, looked, looked_up  what is so where a lookup is answered; and that it is
+--   cells_within               a good book has 64 cells at most
 -- Assumes nothing.
 use mathlib.Core.Path.{◌≡◌, refl, sym, ap, ◌∙◌, subst}
 use mathlib.Core.Bool.{true}

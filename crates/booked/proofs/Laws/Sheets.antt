@@ -1,8 +1,8 @@
 -- Laws of `sheets_of` and `end_to_end` (crates/book/specs/Sheets.antt), beside those of
 -- crates/book/proofs/Laws/Sheets.antt.
 --   whole_again                any bytes are their sheets, end to end
---   sheets-of                  good sheets, end to end, are the sheets of those bytes
---   are-good                   the sheets of a good book are good
+--   sheets_of_lem                  good sheets, end to end, are the sheets of those bytes
+--   are_good                   the sheets of a good book are good
 -- Assumes nothing.
 use mathlib.Core.Path.{◌≡◌, ap, ◌∙◌}
 use mathlib.Core.Bool.{true}

@@ -1,8 +1,8 @@
 -- The promises of specs/Promises.antt.
---   dates-come-back, days-come-back     date to day number and back undo each other
---   next-dates, next-days               days that follow one another have numbers that do
+--   dates_come_back, days_come_back     date to day number and back undo each other
+--   next_dates, next_days               days that follow one another have numbers that do
 --   ends                                the calendar's ends, by computation
---   saidDay-tells-apart, saidDate-tells-apart     no two answers say the same
+--   said_day_tells_apart, said_date_tells_apart     no two answers say the same
 -- Assumes nothing.
 use mathlib.Core.Path.{◌≡◌, refl, ap, sym, ◌∙◌}
 use mathlib.Core.Bool.{Bool, true, false}

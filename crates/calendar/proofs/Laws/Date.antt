@@ -1,11 +1,11 @@
 -- Laws of `is_date`, `days_to` and `date_at` (specs/Calendar.antt): dates, and the days since 1 January 1901. A date is told by three numbers that
 -- count from 0: its year, its month in the year and its day in the month.
 --   fields, of_fields                    what the test of a date says, and back
---   three-of, is-three, is-date          every date is one of three such numbers, within their bounds, and back
---   days-to, days-within, date-found     the days to it, that they are days of the calendar, and that its date is found from them
---   year-falls .. days-back              the three numbers of day i
---   days-to-small, date-of-days-to, is-date-at, days-to-date-at     the same of a date and of a day: each comes back from the other
---   next-date                            the next date lies one day on
+--   three_of, is_three, is_date_lem          every date is one of three such numbers, within their bounds, and back
+--   days_to_lem, days_within, date_found     the days to it, that they are days of the calendar, and that its date is found from them
+--   year_falls .. days_back              the three numbers of day i
+--   days_to_small, date_of_days_to, is_date_at, days_to_date_at     the same of a date and of a day: each comes back from the other
+--   next_date_lem                            the next date lies one day on
 -- Assumes nothing.
 use mathlib.Core.Path.{◌≡◌, refl, ap, subst, ◌∙◌}
 use mathlib.Core.Bool.{Bool, true, false, cond, ◌&&◌}

@@ -1,10 +1,10 @@
 -- Laws of day numbers (`is_day`, `number_of`, specs/Calendar.antt): a day of the calendar is one of the 109,209 since 1 January 1901, moved by the
 -- 25,202 that lie before day 0.
---   days-to-zero      25,202 days lie before day 0
---   number-of         a date's number, by the days to it
+--   days_to_zero      25,202 days lie before day 0
+--   number_of_lem         a date's number, by the days to it
 --   index             the day of a number
---   is-day            the number of a day
---   day-fits          which a signed 32-bit number holds
+--   is_day_lem            the number of a day
+--   day_fits_lem          which a signed 32-bit number holds
 -- Assumes nothing.
 use mathlib.Core.Path.{◌≡◌, refl, ap, sym, ◌∙◌}
 use mathlib.Core.Bool.{Bool, true, false, cond}

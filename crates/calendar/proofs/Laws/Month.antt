@@ -1,7 +1,7 @@
 -- Laws of a year's months, leap years and others alike (`length_in`, specs/Calendar.antt): one test of every month over both tables of the
 -- code, which antt computes, and what follows from it at each.
 --   month                                of month m: its length and the days before it by the tables, and bounds on both
---   month-guessed, month-after-guess     so the month of day j is j / 32, or the next if that one begins by then
+--   month_guessed, month_after_guess     so the month of day j is j / 32, or the next if that one begins by then
 -- Assumes nothing.
 use mathlib.Core.Path.{◌≡◌, refl, subst}
 use mathlib.Core.Bool.{Bool, true, false, cond, ◌&&◌}

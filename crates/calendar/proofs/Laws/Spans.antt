@@ -1,10 +1,10 @@
 -- Laws of `before` and `span_of` (specs/Spans.antt), over any row of spans: they serve the years and the months of a year alike.
---   before-first, before-next     the first span begins at 0, and each next one where the one before it ends
---   before-grows                  a later span begins no earlier
---   before-orders                 so a span that begins earlier is earlier
---   span-found                    the span in which a day falls is the one that `span_of` gives
---   span-falls                    and the day does fall in the span that `span_of` gives, if it lies before the end of the row
---   span-within                   which is one of the row
+--   before_first, before_next     the first span begins at 0, and each next one where the one before it ends
+--   before_grows                  a later span begins no earlier
+--   before_orders                 so a span that begins earlier is earlier
+--   span_found                    the span in which a day falls is the one that `span_of` gives
+--   span_falls                    and the day does fall in the span that `span_of` gives, if it lies before the end of the row
+--   span_within                   which is one of the row
 -- Assumes nothing.
 use mathlib.Core.Path.{◌≡◌, refl, ap, sym}
 use mathlib.Core.Bool.{Bool, true, false, cond}

@@ -1,8 +1,8 @@
 -- Laws of the years (`leap`, `year_length`, specs/Calendar.antt), each of 365 days or 366.
---   year-length      a year has the days of its twelve months
---   year-begins      the days before year k: 1,461 for each four years
---   years-end        and those of all the calendar's years
---   year-found       the year of day i, found from there
+--   year_length_lem      a year has the days of its twelve months
+--   year_begins      the days before year k: 1,461 for each four years
+--   years_end        and those of all the calendar's years
+--   year_found       the year of day i, found from there
 -- Assumes nothing.
 use mathlib.Core.Path.{◌≡◌, refl}
 use mathlib.Core.Bool.{Bool, true, false, cond}

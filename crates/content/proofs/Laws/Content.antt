@@ -1,5 +1,5 @@
 -- Laws of `kind_of`, `day_of` and `content_of` (specs/Content.antt), as specs/Promises.antt states them.
---   never-meet : NeverMeet, content-again : ContentAgain, kind-1-is-never-a-day : Kind1IsNeverADay
+--   never_meet : NeverMeet, content_again : ContentAgain, kind_1_is_never_a_day : Kind1IsNeverADay
 -- Assumes nothing.
 use mathlib.Core.Path.{◌≡◌, refl}
 use Prim.Native.Nat.{ℕ}

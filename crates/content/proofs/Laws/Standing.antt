@@ -1,6 +1,6 @@
 -- Laws of `standing_on`, `cleared`, `past` and `said_standing` (specs/Standing.antt), as specs/Promises.antt states them.
---   saidStanding-tells-apart : StandingsApart
---   on-the-day : OnEachDay, on-the-next-day : OnEachNextDay, past_after : PastExactlyAfter, no-day : WithoutADay, both_ends : BothEnds
+--   said_standing_tells_apart : StandingsApart
+--   on_the_day : OnEachDay, on_the_next_day : OnEachNextDay, past_after : PastExactlyAfter, no_day : WithoutADay, both_ends : BothEnds
 -- Assumes nothing.
 use mathlib.Core.Path.{◌≡◌, refl, ap, sym, ◌∙◌}
 use mathlib.Core.Bool.{Bool, true, false, not, cond}

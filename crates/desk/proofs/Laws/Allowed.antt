@@ -1,9 +1,9 @@
 -- What is so where a call is carried out: its rules, none of which applies, as facts with a name each, in 01's order. Whoever needs one asks for it
 -- by that name, and not by its place in the list of rules.
---   SoundDesk, desk-says                                                                  a sound record, as its clauses
+--   SoundDesk, desk_says                                                                  a sound record, as its clauses
 --   OpenAllowed, WriteAllowed, ReadAllowed, SendAllowed, DeliverAllowed, TakeAllowed
---   open-allows, write-allows, read-allows, send-allows, deliver-allows, take-allows      they are so where no rule applies
---   open-if, send-if, take-if                                                             and where they are so, none does
+--   open_allows, write_allows, read_allows, send_allows, deliver_allows, take_allows      they are so where no rule applies
+--   open_if, send_if, take_if                                                             and where they are so, none does
 -- Assumes nothing.
 use Prim.Native.Nat.{ℕ, ◌+◌, ◌*◌, ◌≤◌, ◌<◌}
 use mathlib.Core.Path.{◌≡◌}

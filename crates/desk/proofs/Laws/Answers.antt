@@ -1,5 +1,5 @@
 -- What an answer says, it alone says.
---   saidAnswer-tells-apart : AnswersApart (specs/Promises.antt)
+--   said_answer_tells_apart : AnswersApart (specs/Promises.antt)
 -- Assumes nothing.
 use mathlib.Core.Path.{◌≡◌, refl}
 use mathlib.Core.Option.{none, some}

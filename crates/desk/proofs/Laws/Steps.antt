@@ -1,6 +1,6 @@
 -- Laws of the private parts of a step (specs/Parts.antt), one for each return of the functions that find them.
 --   waitings            a set for `search`: whether a read waits
---   waits-are           `waits_for` of a desk's head and pending kinds is `must_wait`
+--   waits_are           `waits_for` of a desk's head and pending kinds is `must_wait`
 --   ends_so             whether a read ends
 -- Assumes nothing.
 use Prim.Native.Nat.{ℕ, ◌+◌, ◌-◌, ◌<◌, ◌≤◌}

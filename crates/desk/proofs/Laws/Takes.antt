@@ -1,7 +1,7 @@
 -- Take as the code makes it: one law for each return, and for what is asked on the way.
---   take-refused, take-not-there, took          the returns
---   take-turn, take-desk, take-room             what is asked on the way
---   taken-entries       the entries as the code reads them are those of the sheet in the place
+--   take_refused, take_not_there, took          the returns
+--   take_turn, take_desk, take_room             what is asked on the way
+--   taken_entries       the entries as the code reads them are those of the sheet in the place
 -- Assumes nothing.
 use Prim.Native.Nat.{ℕ, ◌+◌, ◌*◌, ◌<◌, ◌≤◌}
 use mathlib.Core.Path.{◌≡◌, refl, sym, ap, ◌∙◌}

@@ -1,7 +1,7 @@
 -- Figure 1's loop (specs/Figure1.antt, `Loop`) ends alike whichever pair is extracted next: a pair of the set can be extracted first as well.
---   remove-both, assign-both              two extractions, and two assignments, in either order
---   assigned-first, passed_first          a loop that begins with a given pair of the set, and ends as this one does
---   loops-agree : LoopsAgree              so two loops can begin with the same pair, and agree by induction
+--   remove_both, assign_both              two extractions, and two assignments, in either order
+--   assigned_first, passed_first          a loop that begins with a given pair of the set, and ends as this one does
+--   loops_agree : LoopsAgree              so two loops can begin with the same pair, and agree by induction
 -- Assumes nothing.
 use Prim.Native.Nat.{ℕ, suc}
 use mathlib.Core.Path.{◌≡◌, refl, sym, ap, ◌∙◌, fun_ext, subst, subst₂}

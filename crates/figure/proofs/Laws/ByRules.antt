@@ -1,7 +1,7 @@
 -- A call goes by its rules (specs/Demand2.antt, `ByRules`): every call of document 01 is stated by `answer` and `leaves` over its rules
 -- (crates/desk/specs/Answers.antt, `call`), so the laws of those say it.
 --   by_call          so it is of a call, where what is carried out is as it should be
---   sound-next       the next record of such a call: sound, with its own rest
+--   sound_next       the next record of such a call: sound, with its own rest
 --   either           a rule applies, or none does
 --   settled          two outcomes by the same rules are the same, where two that are carried out are
 -- Assumes nothing.

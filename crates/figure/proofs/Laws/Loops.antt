@@ -1,6 +1,6 @@
 -- The entries of a good sheet, put on the shelf one by one, are Figure 1's loop over the set that they make, with both its counts.
 --   absent            a cell below all of some rising entries is in none of them
---   entries-loop      the loop
+--   entries_loop      the loop
 -- Assumes nothing.
 use Prim.Native.Nat.{ℕ, suc, ◌+◌, ◌<◌}
 use mathlib.Core.Path.{◌≡◌, refl, sym, ◌∙◌, fun_ext, subst, subst₂}

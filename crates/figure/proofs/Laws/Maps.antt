@@ -1,7 +1,7 @@
 -- Laws of the map from a desk to a process (specs/Map.antt): what a put in the arrays is to the copies and to the updates.
---   copy-put, updates-put          a content put in a place is assigned, and included
---   no-updates, some-updates       updates are ∅ exactly if no place is filled
---   same-process                   two processes with the same parts are the same
+--   copy_put, updates_put          a content put in a place is assigned, and included
+--   no_updates, some_updates       updates are ∅ exactly if no place is filled
+--   same_process                   two processes with the same parts are the same
 -- Assumes nothing.
 use Prim.Native.Nat.{ℕ, ◌<◌, ◌≤◌}
 use mathlib.Core.Path.{◌≡◌, refl, sym, ap, ◌∙◌, fun_ext}

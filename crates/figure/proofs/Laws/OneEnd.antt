@@ -1,8 +1,8 @@
 -- A piece of Figure 1 (specs/Figure1.antt, `Step`) has one end: two steps from the same process that show the same event, or two reads of one
 -- variable, end in the same process.
---   same_write, same_read, same_block, same-send, same-apply
---   no-read-blocks         a read that returns does not block
---   returns-at-turn        and one that was blocked has the turn
+--   same_write, same_read, same_block, same_send, same_apply
+--   no_read_blocks         a read that returns does not block
+--   returns_at_turn        and one that was blocked has the turn
 -- Assumes nothing.
 use Prim.Native.Nat.{ℕ}
 use mathlib.Core.Path.{◌≡◌, refl, sym, ◌∙◌}

@@ -1,5 +1,5 @@
 -- A read that is carried out is Figure 1's r_p(x): it returns the copy, or blocks, by the same test.
---   waits_if, waits-only-if        01's test of a read that waits is Figure 1's
+--   waits_if, waits_only_if        01's test of a read that waits is Figure 1's
 -- Assumes nothing.
 use Prim.Native.Nat.{ℕ, ◌+◌, ◌-◌}
 use mathlib.Core.Path.{◌≡◌, refl, sym, ap, ◌∙◌, subst}

@@ -1,9 +1,9 @@
 -- A sound record is settled by its process and the rest (specs/Demand2.antt): a kind and a day are found again in their content, since a
 -- sound record's kinds are 0, 1 and 2, and "day numbers are 0 unless the content is a day".
---   kind-again, day-again           a kind and a day, from their content
---   same-kinds, same-days           so two arrays of each with the same contents are the same
---   pending-content, wait-again     a pending place from updates_p, and the waiting read from the blocked one
---   same-record                     two records with the same rest that are the same process are the same
+--   kind_again, day_again           a kind and a day, from their content
+--   same_kinds, same_days           so two arrays of each with the same contents are the same
+--   pending_content, wait_again     a pending place from updates_p, and the waiting read from the blocked one
+--   same_record                     two records with the same rest that are the same process are the same
 -- Assumes nothing.
 use Prim.Native.Nat.{ℕ, ◌+◌, ◌-◌, ◌<◌, ◌≤◌}
 use mathlib.Core.Path.{◌≡◌, refl, sym, ap, ◌∙◌}

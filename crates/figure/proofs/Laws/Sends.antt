@@ -1,5 +1,5 @@
 -- A send that is carried out is Figure 1's send_updates(): the sheet in the buffer carries updates_p, and no read is blocked.
---   pending-carried          the pending entries, as a set, are updates_p
+--   pending_carried          the pending entries, as a set, are updates_p
 -- Assumes nothing.
 use Prim.Native.Nat.{ℕ, zero, suc, ◌<◌, ◌≤◌}
 use mathlib.Core.Path.{◌≡◌, refl, sym, ap, ◌∙◌, fun_ext, subst}

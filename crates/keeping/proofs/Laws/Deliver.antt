@@ -1,5 +1,5 @@
 -- A delivery keeps the record whatever it is: "The record stays." The tray is as long as before.
---   deliver-same, deliver-long
+--   deliver_same, deliver_long
 -- Assumes nothing.
 use mathlib.Core.Path.{◌≡◌, refl}
 use mathlib.Core.List.{List}

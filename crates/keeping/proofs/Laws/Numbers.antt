@@ -1,7 +1,7 @@
 -- No call changes n, m, own number or mode, and the turn number goes up by 1 in a send and a take that are carried out, and else stays: the next
 -- record of each call says so.
---   write-numbers, read-numbers, send-numbers, take-numbers
---   write-turn, read-turn, send-turn, take-turn
+--   write_numbers, read_numbers, send_numbers, take_numbers
+--   write_turn, read_turn, send_turn, take_turn
 -- That a delivery keeps the whole record is proved in proofs/Laws/Deliver.antt.
 -- Assumes nothing.
 use mathlib.Core.Path.{◌≡◌, refl, sym, subst}

@@ -1,5 +1,5 @@
 -- An open that is carried out gives a sound record: its numbers are within limits, and every place is blank. Every open's record fits.
---   open-sound, open-fits
+--   open_sound, open_fits
 -- Assumes nothing.
 use Prim.Native.Nat.{ℕ, ◌≤◌}
 use mathlib.Core.Path.{◌≡◌, refl, ap, ◌∙◌}

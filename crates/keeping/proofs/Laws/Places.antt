@@ -1,8 +1,8 @@
 -- A record is sound by its places: the clauses of `Sound` (crates/sound) that speak of a cell, of one cell at a time.
---   FairNumbers, numbers-are          the clauses on n, m, own number and mode
+--   FairNumbers, numbers_are          the clauses on n, m, own number and mode
 --   FairPlace, place_is               the clauses on one cell: its kind and day on the shelf, and those of its pending place
---   sound-by-places                   numbers, places and a waiting read that are as they should be make a sound record
---   blank-place                       every place of an array of blanks is blank
+--   sound_by_places                   numbers, places and a waiting read that are as they should be make a sound record
+--   blank_place                       every place of an array of blanks is blank
 -- Assumes nothing.
 use Prim.Native.Nat.{ℕ, ◌≤◌, ◌<◌}
 use mathlib.Core.Path.{◌≡◌, refl}

@@ -1,7 +1,7 @@
 -- A read keeps a record sound: it changes nothing but the waiting read, and one that begins to wait is as `must_wait` says. It keeps a record
 -- that fits, too.
---   wait-says                      what `must_wait` says, as the clauses on a waiting read
---   read-sound, read_fits
+--   wait_says                      what `must_wait` says, as the clauses on a waiting read
+--   read_sound, read_fits
 -- Assumes nothing.
 use Prim.Native.Nat.{ℕ, ◌+◌, ◌-◌, ◌<◌}
 use mathlib.Core.Path.{◌≡◌, refl}

@@ -1,6 +1,6 @@
 -- Laws of a call's rules that every call's proof goes by.
 --   kept                     what holds of a thing as it was, and as a call that is carried out leaves it, holds after the call
---   Off, never-given         a number whose rules do not apply is never given
+--   Off, never_given         a number whose rules do not apply is never given
 -- Assumes nothing.
 use Prim.Native.Nat.{ℕ}
 use mathlib.Core.Path.{◌≡◌, refl, sym, ◌∙◌}

@@ -1,9 +1,9 @@
 -- A send keeps a record sound: nothing is pending after it, and no read waits, since a waiting read has the turn elsewhere and 9 would have
 -- come. It keeps a record that fits, too: 10 comes at the last turn number.
---   none-waits                     on the desk's own turn no read waits
---   send-sound, send-fits
---   sheet-fits, never-11           a desk's sheet has 396 bytes at most, and 11 never comes where 396 are lent
---   send-long                      the buffer is as long as before
+--   none_waits                     on the desk's own turn no read waits
+--   send_sound, send_fits
+--   sheet_fits, never_11           a desk's sheet has 396 bytes at most, and 11 never comes where 396 are lent
+--   send_long                      the buffer is as long as before
 -- Assumes nothing.
 use Prim.Native.Nat.{ℕ, ◌≤◌, ◌<◌}
 use mathlib.Core.Path.{◌≡◌, refl, ◌∙◌}

@@ -1,6 +1,6 @@
 -- The sheet of a sound record whose turn it is, below the last turn number: what a send that is carried out sends.
---   fair-head, fair-places                    the record's numbers and pending places are within limits
---   sheet-good, sheet-read, sheet-numbers, sheet-entries    the sheet is good, and gives back the desk's numbers and the pending entries
+--   fair_head, fair_places                    the record's numbers and pending places are within limits
+--   sheet_good, sheet_read, sheet_numbers, sheet_entries    the sheet is good, and gives back the desk's numbers and the pending entries
 -- Assumes nothing.
 use Prim.Native.Nat.{ℕ}
 use mathlib.Core.Path.{◌≡◌, sym, ap, ◌∙◌}

@@ -1,12 +1,12 @@
 -- A take keeps a record sound: pending entries stay, and an entry that goes to the shelf is open or a day, its cell is below m, and in modes
 -- 1 and 3 it is not pending. A read that still waits has the turn elsewhere. It keeps a record that fits, too: four bytes make a day of 32 bits,
 -- and 10 comes at the last turn number.
---   laid-place                     what holds of a cell's kind and day, and of those of every entry that goes to it, holds of them afterwards
---   entry-is                       a good entry that goes to a cell leaves it as it should be
---   waits-after                    the waiting read after a take
---   take-sound
---   entries-days                   the days of entries in bytes have 32 bits
---   take-fits
+--   laid_place                     what holds of a cell's kind and day, and of those of every entry that goes to it, holds of them afterwards
+--   entry_is                       a good entry that goes to a cell leaves it as it should be
+--   waits_after                    the waiting read after a take
+--   take_sound
+--   entries_days                   the days of entries in bytes have 32 bits
+--   take_fits
 --   take_long                      the tray is as long as before
 -- Assumes nothing.
 use Prim.Native.Nat.{ℕ, zero, suc, ◌+◌, ◌%◌, ◌≤◌, ◌<◌}

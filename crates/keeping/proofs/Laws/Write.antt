@@ -1,6 +1,6 @@
 -- A write keeps a record sound: its cell is below m and takes the content on the shelf and as its pending entry, no read waits, and every
 -- other place stays. It keeps a record that fits, too, where the content's day has 32 bits.
---   write-sound, write-fits
+--   write_sound, write_fits
 -- Assumes nothing.
 use Prim.Native.Nat.{ℕ, ◌≤◌, ◌<◌}
 use mathlib.Core.Path.{◌≡◌, refl, ◌∙◌}

@@ -1,5 +1,5 @@
 -- A desk's sheet is bytes.
---   sheet-bytes                    where own number, n and m are within limits and each pending place is blank, open or a day
+--   sheet_bytes                    where own number, n and m are within limits and each pending place is blank, open or a day
 -- Assumes nothing.
 use mathlib.Core.Bool.{Bool, true, false, cond}
 use mathlib.Core.List.{List, [], ◌∷◌}

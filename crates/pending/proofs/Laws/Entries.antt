@@ -1,7 +1,7 @@
 -- Laws of `pending_below` (specs/Pending.antt) and of `pending_at`, `pending_from` (specs/Parts.antt).
---   below-is-from, from_more, none-of-eight       the entries of the cells as they are laid, some at a time; where none of eight is filled there are none
+--   below_is_from, from_more, none_of_eight       the entries of the cells as they are laid, some at a time; where none of eight is filled there are none
 --   grows                                         the entries of fewer cells take no more bytes
---   pending-length, pending-most                  as many entries as filled places, 64 at most
+--   pending_length, pending_most                  as many entries as filled places, 64 at most
 -- Assumes nothing.
 use mathlib.Core.Path.{◌≡◌, refl, sym, ap, ◌∙◌}
 use mathlib.Core.Bool.{Bool, true, false, cond}

@@ -1,9 +1,9 @@
 -- When a desk's sheet is good, and that it then reads back as what the desk has pending.
---   pending-every                         a test that holds of every pending entry
---   FairPlaces, pending-good              places that are blank, open or a day, and blank from m up: their entries are good
---   Days32, pending-days                  days of 32 bits have room in four bytes
---   FairHead, sheet-is-good               a desk whose turn it is and whose numbers are within limits: its sheet is good
---   sheet-reads-back                      and gives back the entries and the desk's numbers
+--   pending_every                         a test that holds of every pending entry
+--   FairPlaces, pending_good              places that are blank, open or a day, and blank from m up: their entries are good
+--   Days32, pending_days                  days of 32 bits have room in four bytes
+--   FairHead, sheet_is_good               a desk whose turn it is and whose numbers are within limits: its sheet is good
+--   sheet_reads_back                      and gives back the entries and the desk's numbers
 -- Assumes nothing.
 use mathlib.Core.Path.{◌≡◌, refl, ap, ◌∙◌}
 use mathlib.Core.Bool.{Bool, true, false, cond}

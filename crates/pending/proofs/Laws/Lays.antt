@@ -1,5 +1,5 @@
 -- Laws of `Lays` (specs/Parts.antt), and of the loops that lay pending entries.
---   lays-nothing, lays_more               no bytes laid; bytes laid right behind others are laid with them
+--   lays_nothing, lays_more               no bytes laid; bytes laid right behind others are laid with them
 --   LaidSoFar                             the entries of some cells are laid, and where they end
 --   ones, eights, alls                    sets for `search`: one place, filled or not; eight places; all of them, eight at a time
 -- Assumes nothing.

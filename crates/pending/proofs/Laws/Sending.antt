@@ -1,8 +1,8 @@
 -- Laws of `sheet_of`, `entries_sent`, `buffer_with` and `Sends` (specs/Pending.antt).
---   sheet-long, sheet-most                how long a desk's sheet is: 396 bytes at most
---   too_short, sent-whole                 what a call answers and leaves, by the room alone
+--   sheet_long, sheet_most                how long a desk's sheet is: 396 bytes at most
+--   too_short, sent_whole                 what a call answers and leaves, by the room alone
 --   sendings                              a set for `search`: what `write_sheet` knows at each of its returns, and what it then leaves and answers
---   saidSent-tells-apart : SendingsApart (specs/Promises.antt)
+--   said_sent_tells_apart : SendingsApart (specs/Promises.antt)
 -- Assumes nothing.
 use mathlib.Core.Path.{◌≡◌, refl, sym, ap, ◌∙◌}
 use mathlib.Core.List.{List, ◌++◌}

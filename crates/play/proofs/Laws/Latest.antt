@@ -1,6 +1,6 @@
 -- A sender's latest sheet on the line (`latest_of`, specs/Steps.antt), and its place in the bytes that the code keeps it in.
---   latest-more                       one sheet more: it is its sender's latest
---   LatestIs, Kept, nothing-kept      what lies in each desk's place is its latest sheet; at first there is none
+--   latest_more                       one sheet more: it is its sender's latest
+--   LatestIs, Kept, nothing_kept      what lies in each desk's place is its latest sheet; at first there is none
 --   kept_send                         so it is after a send
 -- Assumes nothing.
 use Prim.Native.Nat.{ℕ, suc, ◌+◌, ◌*◌, ◌<◌, ◌≤◌}

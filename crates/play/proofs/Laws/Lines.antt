@@ -1,6 +1,6 @@
 -- The line of a schedule at a place.
---   line-here                                 what its step comes to, and those of the rest
---   Behind, behind, one_line, none-behind     how many lines are left behind it
+--   line_here                                 what its step comes to, and those of the rest
+--   Behind, behind, one_line, none_behind     how many lines are left behind it
 -- Assumes nothing.
 use Prim.Native.Nat.{ℕ, suc, ◌+◌, ◌-◌, ◌<◌, ◌≤◌}
 use mathlib.Core.Path.{◌≡◌, refl, sym, ap, ◌∙◌, subst}

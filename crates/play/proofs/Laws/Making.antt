@@ -1,5 +1,5 @@
 -- What the functions of src/making.rt know at each return, and that it is what specs/Parts says.
---   sent-room                     a sheet that was sent has room in what was lent
+--   sent_room                     a sheet that was sent has room in what was lent
 --   sends, delivering, makes      sets for `search`, one for each function
 -- Assumes nothing.
 use Prim.Native.Nat.{ℕ, ◌+◌, ◌*◌, ◌-◌, ◌≤◌}

@@ -1,9 +1,9 @@
 -- The loop of `run` (src/running.rt): what is printed so far, with what the lines from here on print, is the whole.
---   line-laid, line-end                  a line that was printed, where it has room
---   ran-long                             what a run leaves is as long as what was lent
---   RunSoFar, run-begun, run-ended       the loop, its start and its end
+--   line_laid, line_end                  a line that was printed, where it has room
+--   ran_long                             what a run leaves is as long as what was lent
+--   RunSoFar, run_begun, run_ended       the loop, its start and its end
 --   turns                                a set for `search`: what a turn's calls and numbers ask for
---   run-turned, run-bad                  a turn, and one that ends the run
+--   run_turned, run_bad                  a turn, and one that ends the run
 -- Assumes nothing.
 use Prim.Native.Nat.{ℕ, ◌+◌, ◌*◌, ◌-◌, ◌<◌, ◌≤◌}
 use mathlib.Core.Path.{◌≡◌, refl, sym, ap, ◌∙◌, subst}

@@ -1,7 +1,7 @@
 -- What the functions of src/lib.rt and src/running.rt know at each return, but for `run` and `play`.
---   long-is, mode-by-head                 the test on the input's length, and the mode of an opened desk
+--   long_is, mode_by_head                 the test on the input's length, and the mode of an opened desk
 --   OpenedSoFar, openings                 the loop that opens the desks, and its laws as a set for `search`
---   steps-at                              a set for `search`: `step_at`
+--   steps_at                              a set for `search`: `step_at`
 -- Assumes nothing.
 use Prim.Native.Nat.{ℕ, ◌+◌, ◌-◌, ◌<◌, ◌≤◌}
 use mathlib.Core.Path.{◌≡◌, refl, sym, ap, ◌∙◌}

@@ -1,6 +1,6 @@
 -- The records, trays and latest sheets that the code keeps stand for a state of the run, and do so after every step.
---   Stands, stands-at-start           what that means; so it is when all desks were opened
---   tray-long                         each desk's tray has 398 × n bytes
+--   Stands, stands_at_start           what that means; so it is when all desks were opened
+--   tray_long                         each desk's tray has 398 × n bytes
 --   follows                           a step of the code (specs/Parts) is the step of the run (specs/Steps.antt)
 -- Assumes nothing.
 use Prim.Native.Nat.{ℕ, zero, suc, ◌+◌, ◌*◌, ◌<◌, ◌≤◌}

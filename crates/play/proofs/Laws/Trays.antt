@@ -1,9 +1,9 @@
 -- The trays of a run, one behind the other in the bytes that the code keeps them in: each has 398 × n bytes.
---   trayIn                      the tray of desk p
---   tray-room                   it is there
+--   tray_in                      the tray of desk p
+--   tray_room                   it is there
 --   spliced                     a part that was lent and came back is laid over what was there
---   tray-same, tray-other       a tray that was laid there is there, and the others are as they were
---   tray-zeros                  in zeros all trays are clear
+--   tray_same, tray_other       a tray that was laid there is there, and the others are as they were
+--   tray_zeros                  in zeros all trays are clear
 -- Assumes nothing.
 use Prim.Native.Nat.{ℕ, zero, suc, ◌+◌, ◌*◌, ◌-◌, ◌<◌, ◌≤◌}
 use mathlib.Core.Path.{◌≡◌, refl, sym, ap, ◌∙◌}

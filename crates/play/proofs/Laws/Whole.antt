@@ -1,6 +1,6 @@
 -- What `play_shelf` and `play` know at each return (src/lib.rt), and that it is what `printed` says (specs/Rounds.antt).
---   opens-says                        a desk that can be opened: its numbers
---   can-run, shelf-played             `play_shelf`
+--   opens_says                        a desk that can be opened: its numbers
+--   can_run, shelf_played             `play_shelf`
 --   plays                             a set for `search`: `play`
 -- Assumes nothing.
 use Prim.Native.Nat.{ℕ, ◌+◌, ◌-◌, ◌<◌, ◌≤◌}

@@ -1,7 +1,7 @@
 -- A day as the code prints it: its sign, and the number behind it. The code shows a day of 32 bits as `to_z w32 (of_z w32 z)`, the number of its
 -- own pattern: these laws are stated so.
 --   size_fits                its size without the sign has room in 32 bits
---   days-laid                a set for `search`: what `put_day` knows at each of its returns
+--   days_laid                a set for `search`: what `put_day` knows at each of its returns
 -- Assumes nothing.
 use mathlib.Core.Path.{◌≡◌, refl, sym, ap, ◌∙◌, subst}
 use mathlib.Core.Bool.{true, false}

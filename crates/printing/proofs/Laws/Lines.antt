@@ -1,7 +1,7 @@
 -- Laws of `wrote` (specs/Printing.antt): the header, and the line of a step.
 --   wrote_none                  without room for 64 bytes nothing is laid
---   wrote-whole                 with it the text is, if it is no longer than that
---   header-laid, line-laid      the parts of the header, and of a line, stand one behind the other
+--   wrote_whole                 with it the text is, if it is no longer than that
+--   header_laid, line_laid      the parts of the header, and of a line, stand one behind the other
 -- Assumes nothing.
 use mathlib.Core.Path.{◌≡◌}
 use mathlib.Core.List.{List, ◌++◌, append_assoc}

@@ -1,9 +1,9 @@
 -- Laws of `Puts` (specs/Parts.antt): what holds of any text, whatever it says.
 --   puts                         a text laid where it has room
---   puts-within, puts-same       a greater bound; an equal text
+--   puts_within, puts_same       a greater bound; an equal text
 --   puts_of                      the text of a value, from that of the case that the value is
 --   _then_                       a text right behind another is laid with it: two texts are one
---   numbers-laid                 a set for `search`: a text with a number behind it
+--   numbers_laid                 a set for `search`: a text with a number behind it
 -- Assumes nothing.
 use mathlib.Core.Path.{◌≡◌, refl, sym, ap, subst, ◌∙◌}
 use mathlib.Core.List.{List, ◌++◌}

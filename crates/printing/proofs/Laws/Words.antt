@@ -1,6 +1,6 @@
 -- Laws of the texts of a line (specs/Printing.antt, specs/Parts.antt), as the code lays them: what each function knows where it returns, and
 -- which text it then has laid. Each set is for `search`.
---   modes-laid, contents-laid, takes-laid, answers-laid, steps-laid
+--   modes_laid, contents_laid, takes_laid, answers_laid, steps_laid
 -- Assumes nothing.
 use mathlib.Core.Path.{◌≡◌, sym}
 use mathlib.Core.List.{List, ◌++◌, append_assoc}

@@ -1,5 +1,5 @@
 -- What it says that a sheet is the next to be taken: `is_next` (specs/Rules.antt) as facts.
---   Next, next-says, next-if      a sheet that passes the test has them, and one that has them passes it
+--   Next, next_says, next_if      a sheet that passes the test has them, and one that has them passes it
 -- Assumes nothing.
 use mathlib.Core.Path.{◌≡◌}
 use mathlib.Core.Bool.{true}

@@ -1,5 +1,5 @@
 -- Laws of the lists of rules (specs/Rules.antt).
---   open-numbered, write-numbered, read-numbered, send-numbered, tray-numbered, sheet-numbered, turn-numbered, place-numbered      no rule has the number 0
+--   open_numbered, write_numbered, read_numbered, send_numbered, tray_numbered, sheet_numbered, turn_numbered, place_numbered      no rule has the number 0
 --   numbers             a set for `search`: one rule before the rest, as `answer::first` finds it
 -- Assumes nothing.
 use Prim.Native.Nat.{ℕ}

@@ -1,7 +1,7 @@
 -- Where all is in order, some desk can send or take until all are at their end: look at the desk whose turn the next sheet is, number (sheets
 -- sent) mod n.
---   can-send              it has taken every sheet sent: it can send into 396 bytes
---   can-take              or else its next sheet is sent, and once delivered it takes it
+--   can_send              it has taken every sheet sent: it can send into 396 bytes
+--   can_take              or else its next sheet is sent, and once delivered it takes it
 --   going                 so one of the two
 -- Assumes nothing.
 use Prim.Native.Nat.{ℕ, ◌*◌, ◌%◌, ◌≤◌, ◌<◌}

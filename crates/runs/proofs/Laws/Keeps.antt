@@ -1,7 +1,7 @@
 -- Each step keeps a state in order (Laws/InOrder.antt).
---   held-there                     a sheet that was delivered is in its place
---   sender-is, number_is           who sends has the turn, and its turn number is how many were sent before
---   step-in-order                  each step
+--   held_there                     a sheet that was delivered is in its place
+--   sender_is, number_is           who sends has the turn, and its turn number is how many were sent before
+--   step_in_order                  each step
 -- Assumes nothing.
 use Prim.Native.Nat.{ℕ, ◌+◌, ◌%◌, ◌≤◌, ◌<◌}
 use mathlib.Core.Path.{◌≡◌, sym, ap, ◌∙◌, subst}

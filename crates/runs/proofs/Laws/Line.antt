@@ -1,5 +1,5 @@
 -- The line: sheets stay on it, where they are.
---   more-long, more_same, more-last      one more sheet: how long the line is then, that the others stay, and where the new one is
+--   more_long, more_same, more_last      one more sheet: how long the line is then, that the others stay, and where the new one is
 --   Longer, longer, line_kept            after a call, and after a list of calls
 -- Assumes nothing.
 use Prim.Native.Nat.{ℕ, suc, ◌<◌, ◌≤◌}

@@ -1,6 +1,6 @@
 -- Laws of lists of calls, for whatever calls a desk has.
---   afterAll-append, answersOf-append      calls after calls: what there is after both, and what they answer
---   run-append, run-split                             they are a run exactly if the first are one, and the others are one from there on
+--   after_all_append, answers_of_append      calls after calls: what there is after both, and what they answer
+--   run_append, run_split                             they are a run exactly if the first are one, and the others are one from there on
 --   along                                             what is so of no calls, and of one call more, is so of every run
 -- Assumes nothing.
 use mathlib.Core.Path.{◌≡◌, refl, ap}

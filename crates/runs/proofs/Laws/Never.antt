@@ -1,6 +1,6 @@
 -- The refusals that never come where all is in order (Laws/InOrder.antt).
---   tray-fits, same-shelf, in_reach      tests that pass
---   next-is-next          what the place of the desk whose turn it is holds passes the test of a take
+--   tray_fits_lem, same_shelf, in_reach      tests that pass
+--   next_is_next          what the place of the desk whose turn it is holds passes the test of a take
 --   barred, never         none of the six numbers comes
 -- Assumes nothing.
 use Prim.Native.Nat.{ℕ, ◌+◌, ◌*◌, ◌<◌}

@@ -1,8 +1,8 @@
 -- Laws of a desk in order (Laws/InOrder.antt).
---   desk-sound, some-desks, turn-desk, turn_below      its record is sound, there are desks, and which has the turn
---   own-last                                           a desk whose turn it is has got as far as the line
+--   desk_sound, some_desks, turn_desk_lem, turn_below      its record is sound, there are desks, and which has the turn
+--   own_last                                           a desk whose turn it is has got as far as the line
 --   near                                               all sheets sent are below a desk's turn number + n: its next sheet of its own is not sent
---   NextHeld, next-held                                what the place of the desk whose turn it is holds is the desk's next sheet
+--   NextHeld, next_held                                what the place of the desk whose turn it is holds is the desk's next sheet
 --   none_left                                          a desk that has got as far as the line has all places free
 -- Assumes nothing.
 use Prim.Native.Nat.{ℕ, ◌+◌, ◌%◌, ◌<◌}

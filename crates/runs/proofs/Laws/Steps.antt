@@ -1,8 +1,8 @@
 -- What a call of document 01 comes to on a state, case by case: it is refused and nothing changes, or no rule applies and the next state is
 -- written out. Whatever is proved of all runs goes by these cases.
---   put_same, put_other, put-own             a state with one desk's record, or tray, replaced
---   own-record, other-record                 whose call it is: that desk's next record, and that the others keep theirs
---   rulesOf, withDesk, sheetBy, takenBy      a call's rules; a state, a sheet and an answer that the cases speak of
+--   put_same, put_other, put_own             a state with one desk's record, or tray, replaced
+--   own_record, other_record                 whose call it is: that desk's next record, and that the others keep theirs
+--   rules_of, with_desk, sheet_by, taken_by      a call's rules; a state, a sheet and an answer that the cases speak of
 --   by_call                                  what is so of a refused call, and of one that no rule applies to, is so of a call
 --   Step, step                               the cases, and that each call is one of them
 -- Assumes nothing.

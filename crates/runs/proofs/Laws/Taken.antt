@@ -1,7 +1,7 @@
 -- What a desk has gone past it has taken: every sheet of another desk below its turn number was taken by one of the calls.
 --   Moves, moves          what a call does to a desk's turn number
 --   never_back            no call takes a turn number back
---   gone-past             the calls that brought a desk's turn number from below k to above it have a take of sheet k, or k is the desk's own
+--   gone_past             the calls that brought a desk's turn number from below k to above it have a take of sheet k, or k is the desk's own
 -- Assumes nothing.
 use Prim.Native.Nat.{ℕ, ◌+◌, ◌%◌, ◌≤◌, ◌<◌}
 use mathlib.Core.Path.{◌≡◌, refl, ap, ◌∙◌}

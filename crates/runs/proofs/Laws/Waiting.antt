@@ -1,6 +1,6 @@
 -- A read that waits: nothing but an accepted take of its desk moves the desk's turn number, and the take that brings the desk's own turn answers it.
 --   Passes, passes        what a call does to a desk at which a read waits
---   wait-ended            once the desk has had as many accepted takes as there are numbers before its next own one, one of them answers
+--   wait_ended            once the desk has had as many accepted takes as there are numbers before its next own one, one of them answers
 -- Assumes nothing.
 use Prim.Native.Nat.{ℕ, ◌+◌, ◌%◌, ◌≤◌, ◌<◌}
 use mathlib.Core.Path.{◌≡◌, refl, sym, ap, ◌∙◌}

@@ -1,9 +1,9 @@
 -- Laws of `content_word_at` and of its parts (specs/Parts.antt): what a word that should be a day or `open` says.
---   first-place .. fourth-place, open-found, not-open, not-four    what `open_at` answers; opens-read, a set for `search`
---   least-within, most-within                          a value that passed two tests is within them
---   below-found, not-below                             what `below` answers; belows-read
---   plain-found, not_plain                             what `not_below` answers; plains-read
---   content-open, content-below, content-plain         what `content_at` answers; contents-read
+--   first_place .. fourth_place, open_found, not_open, not_four    what `open_at` answers; opens_read, a set for `search`
+--   least_within, most_within                          a value that passed two tests is within them
+--   below_found, not_below                             what `below` answers; belows_read
+--   plain_found, not_plain                             what `not_below` answers; plains_read
+--   content_open, content_below, content_plain         what `content_at` answers; contents_read
 -- Assumes nothing.
 use mathlib.Core.Path.{◌≡◌, refl, sym, ap, ◌∙◌, subst⁻¹}
 use mathlib.Core.List.{List, [], ◌∷◌}

@@ -1,6 +1,6 @@
 -- Laws of `lines_of` (specs/Lines.antt).
---   no_lines, line_taken, line-ended, line-cut         the lines from a place on, one by one: what a walk from line to line cites
---   LinesSoFar, lines-counted                          the loop of `lines_in`, and its laws as a set for `search`
+--   no_lines, line_taken, line_ended, line_cut         the lines from a place on, one by one: what a walk from line to line cites
+--   LinesSoFar, lines_counted                          the loop of `lines_in`, and its laws as a set for `search`
 -- Assumes nothing.
 use mathlib.Core.Path.{◌≡◌, refl, sym, ap, ◌∙◌}
 use mathlib.Core.List.{List, [], ◌∷◌}

@@ -1,9 +1,9 @@
 -- Laws of `step_in` (specs/Step.antt) as the code goes: what `step_in` and the functions of src/steps.rt answer. Each set is for `search`.
---   write-found, write-bad          writes-read
---   read_found, read-bad            reads-read
---   deliver-found, deliver-bad      delivers-read
---   desk-found, desk-bad            desks-read
---   step-w .. step-t, step_other    steps-read
+--   write_found, write_bad          writes_read
+--   read_found, read_bad            reads_read
+--   deliver_found, deliver_bad      delivers_read
+--   desk_found, desk_bad            desks_read
+--   step_w .. step_t, step_other    steps_read
 -- What callers may want to know of a step is in proofs/Laws/Steps.antt.
 -- Assumes nothing.
 use mathlib.Core.Path.{◌≡◌, refl, sym, ap, ◌∙◌}

@@ -1,5 +1,5 @@
 -- Laws of `start_in` (specs/Start.antt): what `start_in` answers.
---   start-found, start-bad       the two returns; starts-read, a set for `search`
+--   start_found, start_bad       the two returns; starts_read, a set for `search`
 -- Assumes nothing.
 use mathlib.Core.Path.{◌≡◌, refl, sym, ap, ◌∙◌}
 use mathlib.Core.List.{List, [], ◌∷◌}

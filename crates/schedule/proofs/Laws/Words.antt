@@ -1,14 +1,14 @@
 -- Laws of the words of a line: of `number_at`, `letter_at`, `mode_of` (specs/Parts.antt) and `is` (specs/Words.antt).
---   not-before                                     a test and its contrary
---   capped-test                                    a test of a capped value is the value's
---   most-of                                        a value that passed a test is within it
---   number-found, no_number                        what `number_at` answers; numbers-read, a set for `search`
---   number-room, letter-room                       where a word ends
---   letter-place, letter-found, no-letter          what `letter_at` answers; letters-read
---   past-is-0                                      what `byte_at` answers past the end
---   letter-is                                      a word is a letter if its byte is
---   mode-s, mode-c, mode-k, mode-default, no_mode  what `mode_of` answers; modes
---   mode-is                                        the mode of a letter is that of the word
+--   not_before                                     a test and its contrary
+--   capped_test                                    a test of a capped value is the value's
+--   most_of                                        a value that passed a test is within it
+--   number_found, no_number                        what `number_at` answers; numbers_read, a set for `search`
+--   number_room, letter_room                       where a word ends
+--   letter_place, letter_found, no_letter          what `letter_at` answers; letters_read
+--   past_is_0                                      what `byte_at` answers past the end
+--   letter_is                                      a word is a letter if its byte is
+--   mode_s, mode_c, mode_k, mode_default, no_mode  what `mode_of` answers; modes
+--   mode_is                                        the mode of a letter is that of the word
 -- Assumes nothing.
 use mathlib.Core.Path.{◌≡◌, refl, sym, ap, ◌∙◌}
 use mathlib.Core.List.{List, [], ◌∷◌}

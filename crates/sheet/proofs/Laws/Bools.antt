@@ -1,5 +1,5 @@
 -- Tests of many parts, put in another order. They are taken apart by crates/numbers/proofs/Tests.antt.
---   in-any-order                   a set for `simp`: two conjunctions of the same tests are equal, in whatever order and bracketing
+--   in_any_order                   a set for `simp`: two conjunctions of the same tests are equal, in whatever order and bracketing
 -- Assumes nothing.
 use mathlib.Core.Path.{◌≡◌, refl}
 use mathlib.Core.Bool.{Bool, true, false, ◌&&◌, and_assoc, and_comm}

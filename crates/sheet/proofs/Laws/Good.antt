@@ -1,13 +1,13 @@
 -- Laws of `good` (specs/Good.antt) and of its parts (specs/Parts.antt).
---   SoFar, begun, turned, ended              a loop over entries, wherever they stand; turned-in-bytes, ended-in-bytes
---   goes-on-in-bytes, stops-in-bytes, ends-in-bytes, cut-in-bytes    the same for a loop that stops where something is not good
---   entry-tests, trailer-tests               sets for `search`: one entry, and a trailer, test by test
---   good-is, too-short-is-bad                good is its two parts; fewer than 12 bytes are no sheet
---   fair-trailer                             a good trailer's clauses as facts
---   good-is-long, good-trailer-is-fair, good-entries-are, good_length, good-within    what a good sheet is known to be
---   few-entries                              no more entries than cells
---   sheet-bad, sheet-good                    the bytes of values are good exactly if the values are
---   open-or-day                              contents in entries
+--   SoFar, begun, turned, ended              a loop over entries, wherever they stand; turned_in_bytes, ended_in_bytes
+--   goes_on_in_bytes, stops_in_bytes, ends_in_bytes, cut_in_bytes    the same for a loop that stops where something is not good
+--   entry_tests, trailer_tests               sets for `search`: one entry, and a trailer, test by test
+--   good_is, too_short_is_bad                good is its two parts; fewer than 12 bytes are no sheet
+--   fair_trailer                             a good trailer's clauses as facts
+--   good_is_long, good_trailer_is_fair, good_entries_are, good_length, good_within    what a good sheet is known to be
+--   few_entries                              no more entries than cells
+--   sheet_bad, sheet_good                    the bytes of values are good exactly if the values are
+--   open_or_day                              contents in entries
 -- Assumes nothing.
 use mathlib.Core.Path.{◌≡◌, refl, sym, ap, ◌∙◌, subst}
 use mathlib.Core.List.{List, [], ◌∷◌}

@@ -1,10 +1,10 @@
 -- Laws of `reading_of`, `said_read` and `entry_at` (specs/Reading.antt).
 --   readings                     a set for `search`: what `read` knows at each of its returns, and what it then answers
---   good-read, bad-read          what reading gives, by `good` alone
---   said-good, said-bad          what a reading says of `good`
+--   good_read, bad_read          what reading gives, by `good` alone
+--   said_good, said_bad          what a reading says of `good`
 --   trailers                     a set for `search`: what `trailer_of` gives, by the length
---   saidRead-tells-apart : ReadingsApart (specs/Promises.antt)
---   entries-in-place : EntriesInPlace (specs/Promises.antt)
+--   said_read_tells_apart : ReadingsApart (specs/Promises.antt)
+--   entries_in_place : EntriesInPlace (specs/Promises.antt)
 -- Assumes nothing.
 use mathlib.Core.Path.{◌≡◌, refl, sym, ap, ◌∙◌, subst, subst⁻¹, subst₂}
 use mathlib.Core.List.{List, [], ◌∷◌}

@@ -1,8 +1,8 @@
 -- The tests that the code makes (specs/Parts.antt) come to the definition's clauses (specs/Sound.antt).
 --   no_read, a_read                        the waiting read: none, and one
---   causal-days, agreeing-days             the days of pending places, in causal mode and in the others
---   place-in-causal, place-in-others       one place: its tests in the code, and its clauses
---   not_sound, sound-by-parts              the whole: out of limits, and by parts
+--   causal_days, agreeing_days             the days of pending places, in causal mode and in the others
+--   place_in_causal, place_in_others       one place: its tests in the code, and its clauses
+--   not_sound, sound_by_parts              the whole: out of limits, and by parts
 --   answers                                for `search`: each return of the code is one of these laws
 -- Assumes nothing.
 use Prim.Native.Nat.{ℕ, zero, suc, ◌-◌}

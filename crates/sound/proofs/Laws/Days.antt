@@ -1,5 +1,5 @@
 -- Laws of `same_day` (specs/Sound.antt).
---   same-day, same-day-if          the test says that two days are equal, and equal days pass it
+--   same_day_lem, same_day_if          the test says that two days are equal, and equal days pass it
 --   same_bits                      two days of 32 bits are the same exactly if their patterns are
 -- Assumes nothing.
 use Prim.Native.Nat.{ℕ, suc, ◌^◌, ◌-◌}

@@ -1,5 +1,5 @@
 -- The clauses on the two kinds of a cell (`kinds_fit`), as the code tests them in causal mode and in the others.
---   kinds-causal, kinds-agreeing
+--   kinds_causal, kinds_agreeing
 -- Assumes nothing.
 use Prim.Native.Nat.{ℕ}
 use mathlib.Core.Path.{◌≡◌, refl, sym}

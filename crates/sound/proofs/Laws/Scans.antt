@@ -1,7 +1,7 @@
 -- The loops over the places: each makes one test of every place and never stops early.
---   EachSoFar, each-begun, each-turned, each-ended    what a loop has after some turns, for any test of a place
---   blank-begun                                       the loop that starts at place m: its test holds of each place below
---   blank-here, kinds-here, fit-here, agree-here      one place's test, as the code makes it of the two or three numbers that it reads there
+--   EachSoFar, each_begun, each_turned, each_ended    what a loop has after some turns, for any test of a place
+--   blank_begun                                       the loop that starts at place m: its test holds of each place below
+--   blank_here, kinds_here, fit_here, agree_here      one place's test, as the code makes it of the two or three numbers that it reads there
 --   scans                                             all of these, for `search`
 -- Assumes nothing.
 use Prim.Native.Nat.{ℕ, zero, suc, ◌+◌, ◌≤◌, ◌<◌, min}

@@ -1,6 +1,6 @@
 -- `sound_of` (specs/Sound.antt) as facts: a record of its clauses, in 01's order, which says as much as the test does.
 --   Sound, Waiting                 the clauses, and those on a waiting read
---   sound-says, sound-if           a record that passes the test has them, and one that has them passes it
+--   sound_says, sound_if           a record that passes the test has them, and one that has them passes it
 -- Assumes nothing.
 use Prim.Native.Nat.{ℕ, ◌-◌, ◌%◌, ◌≤◌, ◌<◌}
 use mathlib.Core.Path.{◌≡◌, refl, ap}

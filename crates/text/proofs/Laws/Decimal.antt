@@ -1,8 +1,8 @@
 -- Laws of what is read of a decimal number (specs/Decimal.antt).
---   decimal-is                              a word is decimal if it leads well and is of digits: `no_leading_zero` and `digits`
---   no_lead, leads-by, leads-room           what `no_leading_zero` returns, and what it requires
---   value_grows, capped-sooner              a number with more digits is no smaller, so that it may be capped at each of them
---   DecimalSoFar, decimal-loop              the loop of `decimal_at`, and its laws as a set for `search`
+--   decimal_is                              a word is decimal if it leads well and is of digits: `no_leading_zero` and `digits`
+--   no_lead, leads_by, leads_room           what `no_leading_zero` returns, and what it requires
+--   value_grows, capped_sooner              a number with more digits is no smaller, so that it may be capped at each of them
+--   DecimalSoFar, decimal_loop              the loop of `decimal_at`, and its laws as a set for `search`
 -- Assumes nothing.
 use mathlib.Core.Path.{◌≡◌, refl, sym, ap, ◌∙◌}
 use mathlib.Core.List.{List, [], ◌∷◌}

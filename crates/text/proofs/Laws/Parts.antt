@@ -1,11 +1,11 @@
 -- Laws of `parts` and `first_part` (specs/Separated.antt).
 --   empty                               what has no bytes is []
---   part-here, part-on, part-past       the first part of what stands from a place on: at a separator, before another byte, past the end
---   part-goes-on                        where it is not empty, its first byte is the text's
---   part-taken                          it is as many bytes of the text
---   parts-on                            the parts are the first, and, where a separator ends it, those behind it: what a walk from part to part cites
---   part-short, part_room, part-within  how long it can be: a part that starts in the text ends in it
---   PartSoFar, part-found               the loop that looks for a part's end, and its laws as a set for `search`
+--   part_here, part_on, part_past       the first part of what stands from a place on: at a separator, before another byte, past the end
+--   part_goes_on                        where it is not empty, its first byte is the text's
+--   part_taken                          it is as many bytes of the text
+--   parts_on                            the parts are the first, and, where a separator ends it, those behind it: what a walk from part to part cites
+--   part_short, part_room, part_within  how long it can be: a part that starts in the text ends in it
+--   PartSoFar, part_found               the loop that looks for a part's end, and its laws as a set for `search`
 -- Assumes nothing.
 use mathlib.Core.Path.{◌≡◌, refl, sym, ap, ◌∙◌}
 use mathlib.Core.List.{List, [], ◌∷◌}

@@ -1,8 +1,8 @@
 -- Laws of `decimal` and `digits_onto` (specs/Decimal.antt).
---   length-onto                    in front of a tail stand no more digits than the most that there may be
---   decimal-fits                   a number below 10 ^ w has w digits at most, where w is 1 or more
---   decimal-ten, decimal-three     there are 10 digits at most, and for a number of 8 bits 3
---   PrintedSoFar, printed-begun, printed-more, printed-turned, printed_ended, printed-laid
+--   length_onto                    in front of a tail stand no more digits than the most that there may be
+--   decimal_fits                   a number below 10 ^ w has w digits at most, where w is 1 or more
+--   decimal_ten, decimal_three     there are 10 digits at most, and for a number of 8 bits 3
+--   PrintedSoFar, printed_begun, printed_more, printed_turned, printed_ended, printed_laid
 --                                  the loop that makes the digits, the last one first, and what is laid of them
 -- Assumes nothing.
 use mathlib.Core.Path.{◌≡◌, sym, ap, ◌∙◌}

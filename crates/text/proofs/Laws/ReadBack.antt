@@ -1,6 +1,6 @@
 -- Laws of what is printed of a number (specs/Decimal.antt).
---   printed-reads-back : PrintedReadsBack (specs/Promises.antt)
---   read-prints-back : ReadPrintsBack (specs/Promises.antt)
+--   printed_reads_back : PrintedReadsBack (specs/Promises.antt)
+--   read_prints_back : ReadPrintsBack (specs/Promises.antt)
 -- Assumes nothing.
 use mathlib.Core.Path.{◌≡◌, refl, ap, ◌∙◌}
 use mathlib.Core.List.{List, [], ◌∷◌, ◌++◌, append-nil}

@@ -1,6 +1,6 @@
 -- A tray's bytes stay bytes.
---   laid-bytes                     bytes laid over bytes
---   held_bytes, cleared-bytes      a tray with a sheet put into a place, and one with a place cleared
+--   laid_bytes                     bytes laid over bytes
+--   held_bytes, cleared_bytes      a tray with a sheet put into a place, and one with a place cleared
 -- Assumes nothing.
 use mathlib.Core.List.{List, ◌++◌}
 use Prim.Native.Nat.{ℕ, ◌+◌, ◌-◌}

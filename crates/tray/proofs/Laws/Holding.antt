@@ -1,8 +1,8 @@
 -- Laws of `held_in` and `cleared_in` (specs/Tray.antt), as the code goes.
---   place-long            a place has 398 bytes
---   held-is, held-not     a sheet of up to 396 bytes is laid over its place, and a longer one is not
+--   place_long            a place has 398 bytes
+--   held_is, held_not     a sheet of up to 396 bytes is laid over its place, and a longer one is not
 --   holds                 a set for `search`: what `hold` knows where it leaves the tray alone
---   hold-whole            what it laid, part by part, is the whole place
+--   hold_whole            what it laid, part by part, is the whole place
 --   clears                a set for `search`: what `clear` knows at each of its returns, and what the tray then is
 -- Assumes nothing.
 use mathlib.Core.Path.{◌≡◌, sym, ap, ◌∙◌}

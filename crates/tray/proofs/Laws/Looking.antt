@@ -1,8 +1,8 @@
 -- Laws of `free`, `holds_good` and `place_of` (specs/Tray.antt), as the code goes.
 --   no_byte                                   past the end there is no byte, and 0 says so
---   place-free, place-holds, place-spoilt     what a look finds, by `free` and `holds_good` alone
+--   place_free, place_holds, place_spoilt     what a look finds, by `free` and `holds_good` alone
 --   BySheet, looks                            a set for `search`: what `look` knows before it reads the sheet, and what it answers, or that the sheet decides
---   look-holds, look-refused                  what it answers when the sheet was read
+--   look_holds, look_refused                  what it answers when the sheet was read
 -- Assumes nothing.
 use mathlib.Core.Path.{◌≡◌, sym, ap, ◌∙◌, subst}
 use mathlib.Core.List.{List}

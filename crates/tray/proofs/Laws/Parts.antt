@@ -1,7 +1,7 @@
 -- Laws of parts of a list: what laying bytes over a buffer leaves of it, and parts of parts.
---   by-room                                     a fact about what laying leaves, from the two cases
---   laid-long                                   a buffer is as long as before
---   laid-inside, laid-before, laid-after        what stands where bytes were laid, before them and after them
+--   by_room                                     a fact about what laying leaves, from the two cases
+--   laid_long                                   a buffer is as long as before
+--   laid_inside, laid_before, laid_after        what stands where bytes were laid, before them and after them
 --   part_of, byte_of                            a part of a part, and a byte of one, where they stand in the whole
 -- Assumes nothing.
 use mathlib.Core.Path.{◌≡◌, refl, sym, ap, ◌∙◌}

@@ -1,13 +1,13 @@
 -- Laws of trays for whoever uses them: what a place holds after a sheet was put into it or it was cleared, and that the others stay.
---   place-there                                  a tray of n places has the place of each desk below n
+--   place_there                                  a tray of n places has the place of each desk below n
 --   by_size                                      a fact about what putting a sheet into a place leaves, from the two cases
---   held-long, cleared-long                      a tray is as long as before
---   HoldsGood, holds-says                        what `holds_good` says, as facts
---   holds-not-free                               a place that holds a good sheet is not free
---   Held, held_found, held-holds                 a sheet that was put into a place is found there
---   cleared-free                                 a cleared place is free
---   SamePlace, held-others, cleared-others       every other place stays, byte for byte
---   same-length-at, same-free, same-sheet, same-sheet-held, same-holds      and then it is in all respects as before
+--   held_long, cleared_long                      a tray is as long as before
+--   HoldsGood, holds_says                        what `holds_good` says, as facts
+--   holds_not_free                               a place that holds a good sheet is not free
+--   Held, held_found, held_holds                 a sheet that was put into a place is found there
+--   cleared_free                                 a cleared place is free
+--   SamePlace, held_others, cleared_others       every other place stays, byte for byte
+--   same_length_at, same_free, same_sheet, same_sheet_held, same_holds      and then it is in all respects as before
 -- Assumes nothing.
 use mathlib.Core.Path.{◌≡◌, refl, sym, ap, ◌∙◌}
 use mathlib.Core.List.{List, ◌++◌}

@@ -1,8 +1,8 @@
 -- Laws of zeros: of `zeros` (specs/Tray.antt), and of zeros laid over a tray.
---   ZerosSoFar, zeros-begun, zeros-turned, zeros-ended              the loop that looks for a byte that is none
---   ClearedSoFar, cleared-begun, cleared-turned, cleared-ended      the loop that lays them: `PutSoFar` of the laying's laws
---   zeros-found, zeros-laid                                         the two loops' laws as sets for `search`
---   zeros-are                                                       zeros are zeros
+--   ZerosSoFar, zeros_begun, zeros_turned, zeros_ended              the loop that looks for a byte that is none
+--   ClearedSoFar, cleared_begun, cleared_turned, cleared_ended      the loop that lays them: `PutSoFar` of the laying's laws
+--   zeros_found, zeros_laid                                         the two loops' laws as sets for `search`
+--   zeros_are                                                       zeros are zeros
 -- Assumes nothing.
 use mathlib.Core.Path.{◌≡◌, refl, sym, ap, ◌∙◌, subst}
 use mathlib.Core.List.{List}

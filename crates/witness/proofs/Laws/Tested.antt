@@ -1,9 +1,9 @@
 -- That given calls are a run, and that none of them is such a call, where a test that computes says so.
 --   computing                  a proof with this on its `unfolding` line computes what calls answer and leave
---   below_two, below-three     what is so of each of the least two or three numbers
---   is-possible, is-run        a call is one that a run may have next; so is every one of these calls
---   answered-last              the last of these calls answers a read, and all others let it wait
---   no-take, no_answer         none of these calls takes a sheet at desk p; none answers a read of desk p
+--   below_two, below_three     what is so of each of the least two or three numbers
+--   is_possible, is_run        a call is one that a run may have next; so is every one of these calls
+--   answered_last              the last of these calls answers a read, and all others let it wait
+--   no_take, no_answer         none of these calls takes a sheet at desk p; none answers a read of desk p
 -- Assumes nothing.
 use mathlib.Core.Path.{◌≡◌, refl, sym, ◌∙◌}
 use mathlib.Core.Bool.{Bool, true, false, ◌&&◌, ◌||◌, false≢true}

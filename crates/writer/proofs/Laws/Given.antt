@@ -1,6 +1,6 @@
 -- Laws of the two loops over the first n of given entries (src/given.rt).
---   TestedSoFar, tested-begun, tested-turned, tested-ended        the loop that tests them: `SoFar` of the sheet's laws, over an array
---   LaidSoFar, laid-begun, laid-turned, laid-ended                the loop that writes them
+--   TestedSoFar, tested_begun, tested_turned, tested_ended        the loop that tests them: `SoFar` of the sheet's laws, over an array
+--   LaidSoFar, laid_begun, laid_turned, laid_ended                the loop that writes them
 -- Assumes nothing.
 use mathlib.Core.Path.{◌≡◌, refl, sym, ap, ◌∙◌}
 use mathlib.Core.List.{List, [], ◌∷◌, ◌++◌}

@@ -1,6 +1,6 @@
 -- Laws of `written_of`, `buffer_of` and `Writes` (specs/Writing.antt).
 --   writings                       a set for `search`: what `write` knows at each of its returns, and what it then leaves and answers
---   refused-writes-nothing : RefusedWritesNothing, saidWritten-tells-apart : WritingsApart (specs/Promises.antt)
+--   refused_writes_nothing : RefusedWritesNothing, said_written_tells_apart : WritingsApart (specs/Promises.antt)
 -- Assumes nothing.
 use mathlib.Core.Path.{◌≡◌, refl, sym, ap, ◌∙◌}
 use mathlib.Core.List.{List, ◌++◌}
