@@ -2,7 +2,7 @@
 // name and `.new`, which is made before the book is read: while it is there, nobody else adds.
 ghost use Rattle.std.specs.Prelude.{◌≤◌, length};
 
-use crate::{arguments, slices};
+use crate::arguments;
 use std::fs::{OpenFile, OpenOptions};
 use std::io::Write;
 use std::rt::{Env, Files};
