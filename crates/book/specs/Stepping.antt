@@ -18,8 +18,8 @@ part_of b start end = take (end - start) (drop start b)
 -- the book
 unfoldable pub step_back : List ℕ → ℕ → Back
 step_back b place =
-    let up_to_lem = take place b in
-    cond (leb place (length b) && good (last_sheet up_to_lem)) (back.Sheet (last_start up_to_lem) place (numbers_in (last_sheet up_to_lem))) back.None
+    let up_to = take place b in
+    cond (leb place (length b) && good (last_sheet up_to)) (back.Sheet (last_start up_to) place (numbers_in (last_sheet up_to))) back.None
 
 -- where a reader at this place stands after a step: at the start of the sheet that it gave, or
 -- where it was

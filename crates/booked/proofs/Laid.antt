@@ -18,7 +18,7 @@ use Rattle.content.proofs.Laws.Content.{never_meet}
 use Rattle.layout.specs.declared.Entry.{Entry}
 use Rattle.layout.specs.Layout.{content_in}
 use Rattle.sheet.specs.Good.{kind_and_day, good}
-use Rattle.sheet.specs.Promises.{OpenOrDay, is_open, is_day_lem}
+use Rattle.sheet.specs.Promises.{OpenOrDay, is_open, is_day}
 use Rattle.sheet.proofs.Laws.Good.{good_entries_are, open_or_day}
 use Rattle.applying.specs.Applying.{kind_on, day_on}
 use Rattle.sound.specs.Head.{causal}
@@ -66,7 +66,7 @@ not_blank s g e i p = by_kind (open_or_day e (every_in kind_and_day i (search (g
   where
     by_kind : OpenOrDay e → ⊥
     by_kind (is_open k c) = never_meet.blank_is_not_open (sym p ∙ c)
-    by_kind (is_day_lem k c) = never_meet.blank_is_no_day _ (sym p ∙ c)
+    by_kind (is_day k c) = never_meet.blank_is_no_day _ (sym p ∙ c)
 
 no_blank : (b : List ℕ) (cell : ℕ) (c : Content) (turn : ℕ) → lookup_of b cell ≡ answered (entry c turn) → c ≡ Blank → ⊥
 no_blank b cell c turn e p =

@@ -78,8 +78,8 @@ count_untested b = answered (length (sheets_of b))
 -- it does not look whether the place is in the book
 unfoldable pub step_beyond : List ℕ → ℕ → Back
 step_beyond b place =
-    let up_to_lem = take place b in
-    cond (good (last_sheet up_to_lem)) (Sheet (last_start up_to_lem) place (numbers_in (last_sheet up_to_lem))) None
+    let up_to = take place b in
+    cond (good (last_sheet up_to)) (Sheet (last_start up_to) place (numbers_in (last_sheet up_to))) None
 
 -- at the front it gives a part of no bytes
 unfoldable pub step_at_front : List ℕ → ℕ → Back

@@ -22,7 +22,6 @@ ghost use Rattle.std.specs.Prelude.{◌≡◌, ◌≤◌, length};
 
 use content::Content;
 use desk::{Answer, Desk, Outcome};
-use libc::{STDIN_FILENO, STDOUT_FILENO};
 
 fn worth(a: Answer) -> u64
     ensures { result ≤ 255 }
@@ -212,32 +211,34 @@ fn answers(line: &[u8], input: &[u8], past: &mut [u8]) -> u64
     repeat(line, times, d)
 }
 
-fn say_line(line: &[u8], sum: u64)
+// A write that fails is passed over.
+fn say_line(rt: &impl Print, line: &[u8], sum: u64)
     requires { 11 ≤ length line.now }
 {
     let text = [
         line[0], line[1], line[2], line[3], line[4], line[5], line[6], line[7], line[8], line[9],
         b':', b' ',
     ];
-    io::write_all(STDOUT_FILENO, &text);
-    io::print_decimal(STDOUT_FILENO, sum);
-    io::write_all(STDOUT_FILENO, b"\n");
+    let _ = rt.write_all(&text);
+    let _ = rt.println(sum);
 }
 
-fn say_lines(input: &[u8], past: &mut [u8]) {
+fn say_lines(rt: &impl Print, input: &[u8], past: &mut [u8]) {
     let mut at: usize = 0;
     while 11 <= input.len() - at {
         let to = at + 11;
         let line = &input[at..to];
-        say_line(line, answers(line, input, past));
+        say_line(rt, line, answers(line, input, past));
         at = to;
     }
 }
 
-fn main() {
-    let mut space = io::buffer();
-    let len = io::read_full(STDIN_FILENO, &mut space);
-    let mut past = io::buffer();
-    let more = io::read_full(STDIN_FILENO, &mut past);
-    say_lines(&space[..len], &mut past[..more]);
+fn main(rt: HostRuntime) {
+    let mut input = rt.stdin();
+    let mut space = [0u8; 4096];
+    // A read that fails is taken for the input's end.
+    let (len, _) = word::read_all(&mut input, &mut space);
+    let mut past = [0u8; 4096];
+    let (more, _) = word::read_all(&mut input, &mut past);
+    say_lines(&rt, &space[..len], &mut past[..more]);
 }

@@ -8,7 +8,6 @@
 ghost use Rattle.std.specs.Prelude.{◌≤◌};
 
 use calendar::{Date, DateAnswer, DayAnswer};
-use libc::STDOUT_FILENO;
 
 // Where the walk is: a date and its day's number. Past the last date it stays on 1 January 2200.
 #[derive(Clone, Copy)]
@@ -258,23 +257,24 @@ fn outside_that_differ() -> u64 {
         + outside(2147483647)
 }
 
-fn write(text: &[u8]) {
-    io::write_all(STDOUT_FILENO, text);
+// A write that fails is passed over, here and below.
+fn write(rt: &impl Print, text: &[u8]) {
+    let _ = rt.write_all(text);
 }
 
-fn say(differ: u64) {
-    io::print_decimal(STDOUT_FILENO, differ);
-    write(b" differ\n");
+fn say(rt: &impl Print, differ: u64) {
+    let _ = rt.print(differ);
+    write(rt, b" differ\n");
 }
 
-fn main() {
-    write(b"109209 days both ways: ");
-    say(days_that_differ());
+fn main(rt: HostRuntime) {
+    write(&rt, b"109209 days both ways: ");
+    say(&rt, days_that_differ());
     let grid = grid_counted();
-    write(b"13440 dates of the grid, ");
-    io::print_decimal(STDOUT_FILENO, grid.known);
-    write(b" in the calendar: ");
-    say(grid.differ);
-    write(b"8 days outside: ");
-    say(outside_that_differ());
+    write(&rt, b"13440 dates of the grid, ");
+    let _ = rt.print(grid.known);
+    write(&rt, b" in the calendar: ");
+    say(&rt, grid.differ);
+    write(&rt, b"8 days outside: ");
+    say(&rt, outside_that_differ());
 }

@@ -228,7 +228,7 @@ impl Desk {
                 desk: self,
             };
         }
-        // Two arrays of a record cannot be lent at once: the shelf is copied, and put back.
+        // The shelf is copied, and put back.
         let mut kind = self.kind;
         let mut day = self.day;
         let went = steps::apply_from(h, &mut kind, &mut day, &self.pkind, tray, q, looked.entries);

@@ -13,7 +13,6 @@ ghost use Rattle.std.specs.Prelude.{◌<◌, length};
 
 use content::Content;
 use layout::{Entry, Numbers};
-use libc::{STDIN_FILENO, STDOUT_FILENO};
 use sheet::Reading;
 use writer::Written;
 
@@ -29,18 +28,19 @@ fn put_byte(line: &mut [u8], at: usize, b: u8) -> usize {
 
 fn put(line: &mut [u8], at: usize, text: &[u8]) -> usize {
     let mut at = at;
-    let mut i = 0;
-    while i < text.len() {
-        at = put_byte(line, at, text[i]);
-        i += 1;
+    for b in text {
+        at = put_byte(line, at, *b);
     }
     at
 }
 
+// In decimal: the digits before the last, where there are some, and the last.
 fn put_number(line: &mut [u8], at: usize, n: u64) -> usize {
-    let mut text = [0u8; 20];
-    let k = io::decimal(n, &mut text);
-    put(line, at, &text[..k])
+    let mut at = at;
+    if 10 <= n {
+        at = put_number(line, at, n / 10);
+    }
+    put_byte(line, at, b'0' + (n % 10) as u8)
 }
 
 // Text, and a number behind it.
@@ -74,10 +74,8 @@ fn put_entry(line: &mut [u8], at: usize, e: Entry) -> usize {
 
 fn put_entries(line: &mut [u8], at: usize, s: &[u8], count: u8) -> usize {
     let mut at = at;
-    let mut k = 0;
-    while k < count {
+    for k in 0..count {
         at = put_entry(line, at, sheet::entry_at(s, k));
-        k += 1;
     }
     at
 }
@@ -111,7 +109,7 @@ fn is_first(room: &[u8], len: usize, s: &[u8]) -> bool {
     if room.len() < len {
         return false;
     }
-    check::same(&room[..len], s)
+    &room[..len] == s
 }
 
 // Writes what was read into the room, and says whether the same bytes came out.
@@ -142,21 +140,21 @@ fn put_sheet(line: &mut [u8], s: &[u8]) -> usize {
     }
 }
 
-// The line goes out in one piece.
-fn say(line: &[u8], len: usize) {
+// The line goes out in one piece. A write that fails is passed over.
+fn say(rt: &impl Print, line: &[u8], len: usize) {
     if len <= line.len() {
-        io::write_all(STDOUT_FILENO, &line[..len]);
+        let _ = rt.write_all(&line[..len]);
     }
 }
 
-fn say_sheet(line: &mut [u8], s: &[u8]) {
+fn say_sheet(rt: &impl Print, line: &mut [u8], s: &[u8]) {
     let at = put_sheet(line, s);
     let at = put(line, at, b"\n");
-    say(line, at);
+    say(rt, line, at);
 }
 
 // The record at `at`, and where the next one is: the input's end if this one is cut short.
-fn say_record(line: &mut [u8], input: &[u8], at: usize) -> usize
+fn say_record(rt: &impl Print, line: &mut [u8], input: &[u8], at: usize) -> usize
     requires { at < length input.now }
     ensures { at < result }
 {
@@ -169,20 +167,21 @@ fn say_record(line: &mut [u8], input: &[u8], at: usize) -> usize
         return input.len();
     }
     let to = from + len;
-    say_sheet(line, &input[from..to]);
+    say_sheet(rt, line, &input[from..to]);
     to
 }
 
-fn say_records(line: &mut [u8], input: &[u8]) {
+fn say_records(rt: &impl Print, line: &mut [u8], input: &[u8]) {
     let mut at = 0;
     while at < input.len() {
-        at = say_record(line, input, at);
+        at = say_record(rt, line, input, at);
     }
 }
 
-fn main() {
-    let mut space = io::large_buffer();
-    let len = io::read_full(STDIN_FILENO, &mut space);
+fn main(rt: HostRuntime) {
+    let mut space = [0u8; 65536];
+    // A read that fails is taken for the input's end.
+    let (len, _) = word::read_all(&mut rt.stdin(), &mut space);
     let mut line = [0u8; 2048];
-    say_records(&mut line, &space[..len]);
+    say_records(&rt, &mut line, &space[..len]);
 }

@@ -1,5 +1,8 @@
 // The words behind `./register book`.
-use libc::STDERR_FILENO;
+ghost use Rattle.std.specs.Prelude.{◌≤◌, length};
+
+use std::rt::Env;
+use std::str::from_utf8;
 
 #[derive(Clone, Copy)]
 pub(crate) enum Wanted {
@@ -19,29 +22,35 @@ pub(crate) enum Number {
 }
 
 // A line on standard error: why there is no answer.
-pub(crate) fn complain(line: &[u8]) {
-    io::write_all(STDERR_FILENO, line);
+pub(crate) fn complain(rt: &impl Eprint, line: &str) {
+    let _ = rt.eprint(line);
+}
+
+// Argument i in the front of the buffer, and its length: 0 where there is no such argument, or it is
+// longer than the buffer.
+pub(crate) fn argument(rt: &impl Env, i: usize, buf: &mut [u8]) -> usize
+    ensures { result ≤ length buf.new }
+{
+    rt.arg(i, buf).unwrap_or(0)
 }
 
 // What argument 2 asks for.
-pub(crate) fn asked() -> Wanted {
-    let mut buf = io::buffer();
-    let len = os::arg(2, &mut buf);
-    let name = &buf[..len];
-    if check::same(name, b"sheets") {
-        return Wanted::Sheets;
+pub(crate) fn asked(rt: &(impl Env + Eprint)) -> Wanted {
+    let mut buf = [0u8; 4096];
+    let len = argument(rt, 2, &mut buf);
+    match from_utf8(&buf[..len]) {
+        Ok("sheets") => Wanted::Sheets,
+        Ok("lookup") => Wanted::Lookup,
+        Ok("back") => Wanted::Back,
+        Ok("add") => Wanted::Add,
+        _ => {
+            complain(
+                rt,
+                "What is wanted of the book: sheets, lookup, back or add?\n",
+            );
+            Wanted::Nothing
+        }
     }
-    if check::same(name, b"lookup") {
-        return Wanted::Lookup;
-    }
-    if check::same(name, b"back") {
-        return Wanted::Back;
-    }
-    if check::same(name, b"add") {
-        return Wanted::Add;
-    }
-    complain(b"What is wanted of the book: sheets, lookup, back or add?\n");
-    Wanted::Nothing
 }
 
 // Which argument has the number that it goes with; 0 where there is none.
@@ -56,16 +65,19 @@ fn place_of(wanted: Wanted) -> usize {
 }
 
 // The number that goes with it: a cell, a place or a room; 0 where it wants none.
-pub(crate) fn number_with(wanted: Wanted) -> Number {
+pub(crate) fn number_with(rt: &(impl Env + Eprint), wanted: Wanted) -> Number {
     let i = place_of(wanted);
     if i == 0 {
         return Number::Is(0);
     }
-    let mut buf = io::buffer();
-    let len = os::arg(i, &mut buf);
+    let mut buf = [0u8; 4096];
+    let len = argument(rt, i, &mut buf);
     let word = text::decimal_at(&buf[..len], 0, 0);
     if !word.ok {
-        complain(b"A number is wanted, decimal and without leading zeros.\n");
+        complain(
+            rt,
+            "A number is wanted, decimal and without leading zeros.\n",
+        );
         return Number::None;
     }
     Number::Is(word.value as usize)

@@ -1,10 +1,19 @@
 // The book's file, replaced whole. What is to stand in it is written into a file beside it, of its
 // name and `.new`, which is made before the book is read: while it is there, nobody else adds.
-use crate::slices;
+ghost use Rattle.std.specs.Prelude.{◌≤◌, length};
+
+use crate::arguments;
+use std::fs::{OpenFile, OpenOptions};
+use std::io::Write;
+use std::rt::{Env, Files};
+use std::str::from_utf8;
+use std::{fs, io};
 
 // The name of that file: argument 3, and `.new` behind it; none where it has no room.
-fn new_name(buf: &mut [u8]) -> usize {
-    let len = os::arg(3, buf);
+fn new_name(rt: &impl Env, buf: &mut [u8]) -> usize
+    ensures { result ≤ length buf.new }
+{
+    let len = arguments::argument(rt, 3, buf);
     if buf.len() - len < 4 {
         return 0;
     }
@@ -12,45 +21,73 @@ fn new_name(buf: &mut [u8]) -> usize {
     len + 4
 }
 
-// Makes it, and answers a descriptor; below 0 where that failed, and then a line says why.
-pub(crate) fn hold() -> i32 {
-    let mut name = io::buffer();
-    let len = new_name(&mut name);
-    let fd = os::create(slices::part(&name, 0, len));
-    if fd < 0 {
-        os::fail(slices::part(&name, 0, len));
+// Makes it, and answers it; none where that failed, and then a line says why.
+pub(crate) fn hold<R: Env + Files + Eprint + Alloc>(rt: &R) -> Option<R::File> {
+    let mut buf = [0u8; 4096];
+    let len = new_name(rt, &mut buf);
+    let name = word::name_of(rt, &buf[..len])?;
+    match OpenOptions::new()
+        .write(true)
+        .create_new(true)
+        .open(rt, name)
+    {
+        Ok(file) => Some(file),
+        Err(e) => {
+            word::fail(rt, name, e);
+            None
+        }
     }
-    fd
 }
 
 // Takes it away again: the book stays as it is.
-pub(crate) fn let_go() {
-    let mut name = io::buffer();
-    let len = new_name(&mut name);
-    os::unlink(slices::part(&name, 0, len));
+pub(crate) fn let_go(rt: &(impl Env + Files)) {
+    let mut buf = [0u8; 4096];
+    let len = new_name(rt, &mut buf);
+    if let Ok(name) = from_utf8(&buf[..len]) {
+        let _ = fs::remove_file(rt, name);
+    }
 }
 
 // Writes the book there, and puts it in the book's place. Where that fails, a line says so.
-pub(crate) fn replace(fd: i32, book: &[u8]) -> bool {
-    if !io::write_all(fd, book) {
-        os::fail(b"The book stays as it was, for the new one cannot be written");
+pub(crate) fn replace<R: Env + Files + Eprint + Alloc>(
+    rt: &R,
+    mut file: R::File,
+    book: &[u8],
+) -> bool {
+    if let Err(e) = file.write_all(book) {
+        word::fail(
+            rt,
+            "The book stays as it was, for the new one cannot be written",
+            e,
+        );
         return false;
     }
-    if libc::fsync(fd) < 0 {
-        os::fail(b"The book stays as it was, for the new one cannot be kept");
+    if let Err(e) = file.sync_all() {
+        word::fail(
+            rt,
+            "The book stays as it was, for the new one cannot be kept",
+            e,
+        );
         return false;
     }
-    renamed()
-}
-
-fn renamed() -> bool {
-    let mut name = io::buffer();
-    let len = new_name(&mut name);
-    let mut book = io::buffer();
-    let size = os::arg(3, &mut book);
-    if os::rename(slices::part(&name, 0, len), slices::part(&book, 0, size)) < 0 {
-        os::fail(b"The book stays as it was, for the new one cannot be put in its place");
+    if let Err(e) = renamed(rt) {
+        word::fail(
+            rt,
+            "The book stays as it was, for the new one cannot be put in its place",
+            e,
+        );
         return false;
     }
     true
+}
+
+fn renamed(rt: &(impl Env + Files)) -> io::Result<()> {
+    let mut buf = [0u8; 4096];
+    let len = new_name(rt, &mut buf);
+    let mut book = [0u8; 4096];
+    let size = arguments::argument(rt, 3, &mut book);
+    match (from_utf8(&buf[..len]), from_utf8(&book[..size])) {
+        (Ok(new), Ok(old)) => fs::rename(rt, new, old),
+        _ => Err(io::Error::from(io::ErrorKind::InvalidFilename)),
+    }
 }

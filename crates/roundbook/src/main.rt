@@ -16,49 +16,56 @@ mod slices;
 
 use arguments::{Number, Wanted};
 use book::Added;
+use std::rt::Runtime;
 use word::Input;
 
 // The most bytes that a book in a file may have.
 const MOST: usize = 524288;
 
 // The book that argument 3 names, in the front of its room.
-fn book_in(room: &mut [u8]) -> Input {
-    let Input::Read(len) = word::read(3, room) else {
+fn book_in(rt: &impl Runtime, room: &mut [u8]) -> Input {
+    let Input::Read(len) = word::read(rt, 3, room) else {
         return Input::Failed;
     };
     if MOST < len {
-        arguments::complain(b"A book may have 524,288 bytes here, and this one has more.\n");
+        arguments::complain(
+            rt,
+            "A book may have 524,288 bytes here, and this one has more.\n",
+        );
         return Input::Failed;
     }
     Input::Read(len)
 }
 
-fn sheets(room: &mut [u8]) {
-    let Input::Read(len) = book_in(room) else {
+fn sheets(rt: &impl Runtime, room: &mut [u8]) {
+    let Input::Read(len) = book_in(rt, room) else {
         return;
     };
-    word::ended(answers::say_sheets(slices::part(room, 0, len)));
+    word::ended(rt, answers::say_sheets(rt, slices::part(room, 0, len)));
 }
 
-fn lookup(room: &mut [u8], cell: u32) {
-    let Input::Read(len) = book_in(room) else {
+fn lookup(rt: &impl Runtime, room: &mut [u8], cell: u32) {
+    let Input::Read(len) = book_in(rt, room) else {
         return;
     };
-    word::ended(answers::say_found(book::lookup(slices::part(room, 0, len), cell)));
+    word::ended(
+        rt,
+        answers::say_found(rt, book::lookup(slices::part(room, 0, len), cell)),
+    );
 }
 
-fn back(room: &mut [u8], place: usize) {
-    let Input::Read(len) = book_in(room) else {
+fn back(rt: &impl Runtime, room: &mut [u8], place: usize) {
+    let Input::Read(len) = book_in(rt, room) else {
         return;
     };
-    answers::say_back(reader::step_from(slices::part(room, 0, len), place));
-    word::ended(false);
+    answers::say_back(rt, reader::step_from(slices::part(room, 0, len), place));
+    word::ended(rt, false);
 }
 
-fn say_added(added: Added) {
-    let refused = answers::say_added(added);
-    answers::say(b"\n");
-    word::ended(refused);
+fn say_added(rt: &impl Runtime, added: Added) {
+    let refused = answers::say_added(rt, added);
+    answers::say(rt, b"\n");
+    word::ended(rt, refused);
 }
 
 // A room of so many bytes is lent as it is, or as much of it as there is here.
@@ -68,61 +75,63 @@ fn lent(size: usize, most: usize) -> usize {
 
 // Adds the sheet to the book with room for so many bytes, and puts the new book in the file's
 // place; or says why not. The answer is whether the file was replaced.
-fn add_in(room: &mut [u8], fd: i32, s: &[u8], size: usize) -> bool {
-    let Input::Read(len) = book_in(room) else {
+fn add_in<R: Runtime>(rt: &R, room: &mut [u8], file: R::File, s: &[u8], size: usize) -> bool {
+    let Input::Read(len) = book_in(rt, room) else {
         return false;
     };
     let size = lent(size, room.len());
     let added = book::add(slices::part_mut(room, 0, size), len, s);
     let Added::Length(new) = added else {
-        say_added(added);
+        say_added(rt, added);
         return false;
     };
     if MOST < new {
-        arguments::complain(b"A book may have 524,288 bytes here, and this one would have more.\n");
+        arguments::complain(
+            rt,
+            "A book may have 524,288 bytes here, and this one would have more.\n",
+        );
         return false;
     }
-    if !files::replace(fd, slices::part(room, 0, new)) {
+    if !files::replace(rt, file, slices::part(room, 0, new)) {
         return false;
     }
-    say_added(added);
+    say_added(rt, added);
     true
 }
 
 // A sheet has at most 396 bytes, so that 397 show one that is too long.
-fn add(room: &mut [u8], size: usize) {
+fn add(rt: &impl Runtime, room: &mut [u8], size: usize) {
     let mut s = [0u8; 397];
-    let Input::Read(len) = word::read(4, &mut s) else {
+    let Input::Read(len) = word::read(rt, 4, &mut s) else {
         return;
     };
-    let fd = files::hold();
-    if fd < 0 {
+    let Some(file) = files::hold(rt) else {
         return;
-    }
-    if !add_in(room, fd, slices::part(&s, 0, len), size) {
-        files::let_go();
+    };
+    if !add_in(rt, room, file, slices::part(&s, 0, len), size) {
+        files::let_go(rt);
     }
 }
 
-fn with_number(wanted: Wanted, room: &mut [u8]) {
-    let Number::Is(n) = arguments::number_with(wanted) else {
+fn with_number(rt: &impl Runtime, wanted: Wanted, room: &mut [u8]) {
+    let Number::Is(n) = arguments::number_with(rt, wanted) else {
         return;
     };
     match wanted {
-        Wanted::Sheets => sheets(room),
-        Wanted::Lookup => lookup(room, arguments::cell(n)),
-        Wanted::Back => back(room, n),
-        Wanted::Add => add(room, n),
+        Wanted::Sheets => sheets(rt, room),
+        Wanted::Lookup => lookup(rt, room, arguments::cell(n)),
+        Wanted::Back => back(rt, room, n),
+        Wanted::Add => add(rt, room, n),
         Wanted::Nothing => (),
     }
 }
 
-fn main() {
+fn main(rt: HostRuntime) {
     // Bytes for a book, and behind it for a sheet; a book that reaches beyond MOST shows in them.
     let mut space = [0u8; 524685];
-    if os::arg_count() < 2 {
-        records::play(&mut space);
+    if word::has_argument(&rt, 1) {
+        with_number(&rt, arguments::asked(&rt), &mut space);
     } else {
-        with_number(arguments::asked(), &mut space);
+        records::play(&rt, &mut space);
     }
 }

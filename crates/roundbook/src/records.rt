@@ -9,7 +9,7 @@
 //                                              adding; then, in hexadecimal, the room afterwards
 // A record of another letter, or one that is cut short, ends the run.
 use crate::{answers, slices};
-use libc::{STDIN_FILENO, STDOUT_FILENO};
+use std::io;
 
 fn byte_at(s: &[u8], at: usize) -> u8 {
     if at < s.len() { s[at] } else { 0 }
@@ -39,35 +39,33 @@ fn head(letter: u8) -> usize {
 }
 
 // One call on a book, which stands behind the call's own numbers.
-fn say_call(record: &[u8], book: &[u8]) {
+fn say_call(rt: &impl Print, record: &[u8], book: &[u8]) {
     let letter = byte_at(record, 0);
     if letter == b's' {
-        answers::say_sheets(book);
-        answers::say(b"end\n");
+        answers::say_sheets(rt, book);
+        answers::say(rt, b"end\n");
     } else if letter == b'c' {
-        answers::say_count(book::count(book));
+        answers::say_count(rt, book::count(book));
     } else if letter == b'l' {
-        answers::say_found(book::lookup(book, byte_at(record, 1) as u32));
+        answers::say_found(rt, book::lookup(book, byte_at(record, 1) as u32));
     } else {
         let place = long_number(slices::part(record, 1, 9));
-        answers::say_back(reader::step_from(book, place));
+        answers::say_back(rt, reader::step_from(book, place));
     }
 }
 
-fn say_hex(room: &[u8]) {
-    let mut i = 0;
-    while i < room.len() {
-        io::print_hex(STDOUT_FILENO, byte_at(room, i) as u64, 2);
-        i += 1;
+fn say_hex(rt: &impl Print, room: &[u8]) {
+    for b in room {
+        let _ = print!(rt; "{b:02x}");
     }
 }
 
-fn say_adding(room: &mut [u8], len: usize, s: &[u8]) {
+fn say_adding(rt: &impl Print, room: &mut [u8], len: usize, s: &[u8]) {
     let added = book::add(room, len, s);
-    answers::say_added(added);
-    answers::say(b" ");
-    say_hex(room);
-    answers::say(b"\n");
+    answers::say_added(rt, added);
+    answers::say(rt, b" ");
+    say_hex(rt, room);
+    answers::say(rt, b"\n");
 }
 
 // The sum of a record's lengths, or 0 where that is more than there is.
@@ -86,7 +84,7 @@ fn size(head: usize, one: usize, other: usize, most: usize) -> usize {
 
 // The record that adds, at the front: its size, or 0. The sheet is copied, since it stands in one
 // lent slice with the room.
-fn play_adding(rest: &mut [u8]) -> usize {
+fn play_adding(rt: &impl Print, rest: &mut [u8]) -> usize {
     let len = long_number(slices::part(rest, 1, 9));
     let sheet = numbers::u16_of(byte_at(rest, 9), byte_at(rest, 10)) as usize;
     let room = number(slices::part(rest, 11, 15)) as usize;
@@ -95,9 +93,10 @@ fn play_adding(rest: &mut [u8]) -> usize {
         return 0;
     }
     let from = 15 + sheet;
-    let mut s = io::large_buffer();
+    let mut s = [0u8; 65536];
     laying::put(&mut s, 0, slices::part(rest, 15, from));
     say_adding(
+        rt,
         slices::part_mut(rest, from, end),
         len,
         slices::part(&s, 0, sheet),
@@ -106,10 +105,10 @@ fn play_adding(rest: &mut [u8]) -> usize {
 }
 
 // The record at the front: its size, or 0 where the run ends.
-fn play_first(rest: &mut [u8]) -> usize {
+fn play_first(rt: &impl Print, rest: &mut [u8]) -> usize {
     let letter = byte_at(rest, 0);
     if letter == b'a' {
-        return play_adding(rest);
+        return play_adding(rt, rest);
     }
     let front = head(letter);
     if front < 4 {
@@ -120,15 +119,15 @@ fn play_first(rest: &mut [u8]) -> usize {
     if end == 0 {
         return 0;
     }
-    say_call(rest, slices::part(rest, front, end));
+    say_call(rt, rest, slices::part(rest, front, end));
     end
 }
 
 // All records.
-fn play_all(input: &mut [u8]) {
+fn play_all(rt: &impl Print, input: &mut [u8]) {
     let mut at = 0;
     while at < input.len() {
-        let more = play_first(&mut input[at..]);
+        let more = play_first(rt, &mut input[at..]);
         if more == 0 {
             return;
         }
@@ -139,7 +138,8 @@ fn play_all(input: &mut [u8]) {
     }
 }
 
-pub(crate) fn play(room: &mut [u8]) {
-    let len = io::read_full(STDIN_FILENO, room);
-    play_all(slices::part_mut(room, 0, len));
+// A read that fails is taken for the input's end.
+pub(crate) fn play(rt: &(impl io::Input + Print), room: &mut [u8]) {
+    let (len, _) = word::read_all(&mut rt.reader(), room);
+    play_all(rt, slices::part_mut(room, 0, len));
 }

@@ -33,14 +33,14 @@ fn ends_in(text: &[u8], end: &[u8]) -> bool
     same
 }
 
-fn main() {
+fn main(rt: HostRuntime) {
     // One byte more than a schedule may have, so that one that is too long shows.
     let mut input = [0u8; 16385];
-    let Input::Read(len) = word::read(2, &mut input) else {
+    let Input::Read(len) = word::read(&rt, 2, &mut input) else {
         return;
     };
     let mut out = [0u8; 64064];
     let size = play::play(&input[..len], &mut out);
     let printed = &out[..size];
-    word::answer(printed, is_refused(printed));
+    word::answer(&rt, printed, is_refused(printed));
 }

@@ -16,7 +16,7 @@ use Rattle.sheet.specs.Reading.{Sheet, reading_of, said_read, no_entry, entry_at
 -- kind 1 is open and never a day; kind 2 is a day and never open
 pub data OpenOrDay (e : Entry) : Type 0 where
   is_open : e.kind ≡ 1 → content_in e ≡ Open → OpenOrDay e
-  is_day_lem : e.kind ≡ 2 → content_in e ≡ Day (to_z w32 e.day) → OpenOrDay e
+  is_day : e.kind ≡ 2 → content_in e ≡ Day (to_z w32 e.day) → OpenOrDay e
 
 pub record GoodEntry (cells : ℕ) (e : Entry) : Type 0 where
   pub cell_below : e.cell < cells

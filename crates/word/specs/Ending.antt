@@ -1,5 +1,5 @@
 -- How a program of `./register` says that it ended (docs/WORKING.md, "A word of ./register"): "exit status 0 for an answer, 1 for a
--- refusal". What the C library's `write` did with it, no contract can say.
+-- refusal". What the system did with it, no contract can say.
 -- Assumes nothing.
 use Rattle.std.specs.Prelude.{ℕ, ◌≡◌, Bool, cond}
 use Rattle.word.specs.declared.Said.{Said}

@@ -1,4 +1,4 @@
--- What `read` (src/lib.rt) promises. What the C library's `read` did, no contract can say.
+-- What `read` (src/lib.rt) promises. What the system gave, no contract can say.
 -- Assumes nothing.
 use Rattle.std.specs.Prelude.{ℕ, ◌≤◌, List, length}
 use Rattle.word.specs.declared.Input.{Input}

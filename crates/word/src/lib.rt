@@ -1,20 +1,26 @@
-// What the program of a word of `./register` stands on: how it gets at its files, and how it gives
-// its answer. docs/WORKING.md, "A word of ./register".
+// What a program stands on that reads or answers, that of a word of `./register` above all: how it
+// gets at its files, and how it gives its answer. docs/WORKING.md, "A word of ./register".
 //
 // Started by `./register`, a program has the word as argument 1 and the word's own arguments behind
 // it. Without argument 1 it was started alone: it reads standard input and prints, and no more.
-// The kit has no exit status, so a program says on descriptor 3 how it ended, and `./register` ends
-// with the status that belongs to it.
+// A program says on descriptor 3 how it ended, and `./register` ends with the status that belongs to
+// it; the program's own exit status says nothing.
 #![tactic(auto)]
 
-ghost use Rattle.std.specs.Prelude.{◌≡◌};
+ghost use Rattle.std.specs.Prelude.{◌≡◌, ◌≤◌, length};
 ghost use Rattle.word.specs.Ending.{digit_of, Says};
 ghost use Rattle.word.specs.Input.{Within};
 
-use libc::{STDIN_FILENO, STDOUT_FILENO};
+use std::env::FillError;
+use std::fs::OpenOptions;
+use std::io::{Read, Write};
+use std::os::unix::fs::PermissionsExt;
+use std::rt::{Env, Files};
+use std::str::from_utf8;
+use std::{fs, io};
 
-// Where `./register` hears how a program ended.
-const ENDING: i32 = 3;
+// Where `./register` hears how a program ended: descriptor 3, by its name.
+const ENDING: &str = "/proc/self/fd/3";
 
 // What came of reading: so many bytes, up to the input's end or the buffer's; or it failed, and then
 // the bytes that came before are not the input.
@@ -32,46 +38,107 @@ pub enum Said {
     Unwritten,
 }
 
+// What there is to read: standard input, or a file; or neither, where a file could not be opened.
+#[derive(Drop)]
+enum Source<F> {
+    Standard,
+    File(F),
+    None,
+}
+
 // Reads the file that argument i names, or standard input where there is no argument i, to its end
 // or until buf is full. Where that fails, one line on standard error says why.
-pub fn read(i: usize, buf: &mut [u8]) -> Input
+pub fn read(rt: &(impl Env + Files + io::Input + Eprint + Alloc), i: usize, buf: &mut [u8]) -> Input
     ensures { Within buf.new result }
 {
-    let fd = opened(i);
-    if fd < 0 {
-        return Input::Failed;
-    }
-    let Input::Read(size) = read_all(fd, buf) else {
-        os::fail(b"the input cannot be read");
-        close(fd);
-        return Input::Failed;
+    let (size, read) = match opened(rt, i) {
+        Source::Standard => read_all(&mut rt.reader(), buf),
+        Source::File(mut file) => read_all(&mut file, buf),
+        Source::None => return Input::Failed,
     };
-    close(fd);
-    Input::Read(size)
+    match read {
+        Ok(()) => Input::Read(size),
+        Err(e) => {
+            fail(rt, "the input cannot be read", e);
+            Input::Failed
+        }
+    }
+}
+
+// Reads until the input ends, buf is full or a read fails, and answers how many bytes came, and
+// whether no read failed.
+pub fn read_all(from: &mut impl Read, buf: &mut [u8]) -> (usize, io::Result<()>)
+    ensures { result.0 ≤ length buf.new }
+{
+    let mut len = 0;
+    while len < buf.len() {
+        match from.read(&mut buf[len..]) {
+            Ok(0) => break,
+            Ok(more) => len += more,
+            Err(e) => return (len, Err(e)),
+        }
+    }
+    (len, Ok(()))
 }
 
 // Prints the answer on standard output, and says that it is one, or that it is a refusal. Where it
 // could not be printed whole, one line on standard error says why, and nothing is said of an ending.
-pub fn answer(text: &[u8], refused: bool) -> Said
+pub fn answer(rt: &(impl Env + Files + Print + Eprint + Alloc), text: &[u8], refused: bool) -> Said
     ensures { Says refused result }
 {
-    if !io::write_all(STDOUT_FILENO, text) {
-        os::fail(b"not all of the answer could be written");
+    if let Err(e) = rt.write_all(text) {
+        fail(rt, "not all of the answer could be written", e);
         return Said::Unwritten;
     }
-    Said::Ended(ended(refused))
+    Said::Ended(ended(rt, refused))
 }
 
 // Says how the program ended, to `./register` alone, and gives back the digit that says it.
-pub fn ended(refused: bool) -> u8
+pub fn ended(rt: &(impl Env + Files), refused: bool) -> u8
     ensures { result ≡ digit_of refused }
 {
     let d = digit(refused);
     let line = [d, b'\n'];
-    if 1 < os::arg_count() {
-        io::write_all(ENDING, &line);
+    if has_argument(rt, 1) & hears_ending(rt) {
+        let _ = say_ending(rt, &line);
     }
     d
+}
+
+// Whether there is an argument i: of argument 1, whether `./register` started the program.
+pub fn has_argument(rt: &impl Env, i: usize) -> bool {
+    !matches!(rt.arg(i, &mut []), Err(FillError::NotPresent))
+}
+
+// Says on standard error what failed, and why, in a line.
+pub fn fail(rt: &(impl Eprint + Alloc), what: &str, error: io::Error) {
+    let _ = match format!(in rt.alloc(); "{error}") {
+        Ok(text) => {
+            let reason = words_of(text.as_str());
+            eprintln!(rt; "{what}: {reason}")
+        }
+        Err(_) => eprintln!(rt; "{what}: {error}"),
+    };
+}
+
+// What an error says, without the system's number for it, which std puts behind it.
+fn words_of(error: &str) -> &str {
+    match error.split_once(" (os error ") {
+        Some((words, _)) => words,
+        None => error,
+    }
+}
+
+// An argument as a file's name. No other can be opened than one in UTF-8: of any other a line on
+// standard error says so.
+pub fn name_of<'a>(rt: &impl Eprint, argument: &'a [u8]) -> Option<&'a str> {
+    match from_utf8(argument) {
+        Ok(name) => Some(name),
+        Err(_) => {
+            let _ = eprintln!(rt; "a file's name: it is not UTF-8");
+            None
+        }
+    }
 }
 
 fn digit(refused: bool) -> u8
@@ -80,47 +147,40 @@ fn digit(refused: bool) -> u8
     if refused { b'1' } else { b'0' }
 }
 
-// A descriptor of the file that argument i names, or of standard input; below 0 where there is none.
-fn opened(i: usize) -> i32 {
-    if os::arg_count() <= i {
-        return STDIN_FILENO;
-    }
-    let mut path = io::buffer();
-    let len = os::arg(i, &mut path);
-    if os::errno() != 0 {
-        os::fail(b"a file's name");
-        return -1;
-    }
-    let fd = os::open_read(&path[..len]);
-    if fd < 0 {
-        os::fail(&path[..len]);
-    }
-    fd
-}
-
-// Closes what `opened` has opened; standard input stays.
-fn close(fd: i32) {
-    if fd != STDIN_FILENO {
-        libc::close(fd);
+// Whether descriptor 3 is open, and for writing: its name has the permissions that it was opened
+// with. What somebody reads by a descriptor 3 of his own is not to be written to.
+fn hears_ending(rt: &impl Files) -> bool {
+    match fs::symlink_metadata(rt, ENDING) {
+        Ok(found) => found.permissions().mode() & 0o200 != 0,
+        Err(_) => false,
     }
 }
 
-// Reads until the input ends or buf is full. (`io::read_full` takes a read that fails for the end.)
-fn read_all(fd: i32, buf: &mut [u8]) -> Input
-    ensures { Within buf.new result }
-{
-    let mut len = 0;
-    while len < buf.len() {
-        let rest = &mut buf[len..];
-        let got = libc::read(fd, rest);
-        if got < 0 {
-            return Input::Failed;
+fn say_ending(rt: &impl Files, line: &[u8]) -> io::Result<()> {
+    let mut ending = OpenOptions::new().append(true).open(rt, ENDING)?;
+    ending.write_all(line)
+}
+
+// What argument i names, opened, or standard input where there is no argument i. Where it cannot be
+// opened, a line on standard error says why.
+fn opened<R: Env + Files + Eprint + Alloc>(rt: &R, i: usize) -> Source<R::File> {
+    let mut buf = [0u8; 4096];
+    let len = match rt.arg(i, &mut buf) {
+        Ok(len) => len,
+        Err(FillError::NotPresent) => return Source::Standard,
+        Err(FillError::TooLong) => {
+            let _ = eprintln!(rt; "a file's name: File name too long");
+            return Source::None;
         }
-        let more = io::count(got, rest);
-        if more == 0 {
-            break;
+    };
+    let Some(name) = name_of(rt, &buf[..len]) else {
+        return Source::None;
+    };
+    match fs::open(rt, name) {
+        Ok(file) => Source::File(file),
+        Err(e) => {
+            fail(rt, name, e);
+            Source::None
         }
-        len += more;
     }
-    Input::Read(len)
 }

@@ -175,14 +175,14 @@ module _ (d : Desk) (tray : List ℕ) where
               → h' ≡ next_head d.head wait → tray' ≡ cleared_in tray q → a ≡ taken_answer d.head.turn l.entries went over c
               → outcome (record { answer = a; desk = record { head = h'; kind = kind'; day = day'; pkind = d.pkind; pday = d.pday } }) tray' ≡ take_of d tray
           unfolding take_of value
-          took {kind'} {day'} {went = went} {wait = wait} {over = over} {c = c} {h'} {tray'} {a} ap_said over-is cell-is c_is wait_is h_is tray_is a_is =
+          took {kind'} {day'} {went = went} {wait = wait} {over = over} {c = c} {h'} {tray'} {a} ap_said over-is cell_is c_is wait_is h_is tray_is a_is =
               let after = taken_desk d (entries_taken d tray) in
               let kinds : kind' ≡ after.kind = ap_said.kinds ∙ rw these in
               let days : day' ≡ after.day = ap_said.days ∙ rw these in
               let counted : went ≡ went_of (goes (causal d.head) d.pkind) (entries_taken d tray) = ap_said.went ∙ rw these in
               let heads : h' ≡ after.head = h_is ∙ rw (wait_is, over-is) in
               let trays : tray' ≡ cleared_in tray (turn_desk d.head) = tray_is ∙ rw qis in
-              let shown : c ≡ content_at after.kind after.day (wait_cell d.head) = c_is ∙ rw (cell-is, kinds, days) in
+              let shown : c ≡ content_at after.kind after.day (wait_cell d.head) = c_is ∙ rw (cell_is, kinds, days) in
               let answers_so : said_answer a ≡ answered value =
               ap said_answer a_is ∙ said_taken d.head.turn l.entries went over c ∙ rw (number_of_entries, counted, over-is, shown)
               in

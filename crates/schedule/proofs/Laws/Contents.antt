@@ -175,16 +175,16 @@ minus_given rest n = refl
 -- any other is a day from 0 on or nothing
 record Plain (word : List ℕ) : Type 0 where
   pub not_open : is "open" word ≡ false
-  pub is_day_lem : is_day_word word ≡ is_decimal word && leb (value word) 2147483647
+  pub is_day : is_day_word word ≡ is_decimal word && leb (value word) 2147483647
   pub day : day_of_word word ≡ pos (value word)
 
 plain_empty : Plain []
 unfolding is is_day_word is_decimal day_of_word value value_from
-plain_empty = record { not_open = refl; is_day_lem = refl; day = refl }
+plain_empty = record { not_open = refl; is_day = refl; day = refl }
 
 plain_byte : (b : ℕ) (bs : List ℕ) → (b ≡ 111 → ⊥) → (b ≡ 45 → ⊥) → Plain (b ∷ bs)
 unfolding is is_day_word day_of_word
-plain_byte b bs no_o no_minus = record { not_open = rw (ne_eqb b 111 no_o); is_day_lem = rw (ne_eqb b 45 no_minus); day = rw (ne_eqb b 45 no_minus) }
+plain_byte b bs no_o no_minus = record { not_open = rw (ne_eqb b 111 no_o); is_day = rw (ne_eqb b 45 no_minus); day = rw (ne_eqb b 45 no_minus) }
 
 plain_word : (line : List ℕ) (from b : ℕ) → b ≡ get_or line from 0 → (b ≡ 111 → ⊥) → (b ≡ 45 → ⊥) → Plain (word_at line from)
 plain_word line from b first no_o no_minus = by_length (length (word_at line from)) refl
@@ -232,6 +232,6 @@ module _ (line : List ℕ) (from : ℕ) where
         answer
         ∙ ap not_below_of read
         ∙ capped_given (is_decimal word) (value word) pos (λ v. leb v 2147483647) (from + length word) (λ k h. lt-leb k 2147483647 (omega arith))
-        ∙ rw (plain.not_open, plain.is_day_lem, plain.day)
+        ∙ rw (plain.not_open, plain.is_day, plain.day)
 
 pub ruleset contents_read = (content_open, content_below, content_plain)

@@ -60,7 +60,7 @@ module _ (line : List ℕ) (from : ℕ) where
   in_turn : (g : Number → Number → Option Step) (p q : Number) → p ≡ number_at line from → q ≡ number_at line (p.end + 1)
       → g (number_at line from) (number_at line (e₁ + 1)) ≡ g p q
   unfolding number_at
-  in_turn g p q p_is q-is = ap (λ (x : Number). g x (number_at line (x.end + 1))) (sym p_is) ∙ ap (g p) (sym q-is)
+  in_turn g p q p_is q_is = ap (λ (x : Number). g x (number_at line (x.end + 1))) (sym p_is) ∙ ap (g p) (sym q_is)
 
 -- ---- "`r` desk cell"
 
@@ -98,9 +98,9 @@ module _ (line : List ℕ) (from n : ℕ) where
       ∙ reads_by_numbers (ltb e₁ len && not (ltb e₂ len)) (is_number (word_at line from)) (is_number (word_at line (e₁ + 1))) n (value (word_at line from)) (value (word_at line (e₁ + 1)))
       ∙ rw (not_before e₂ len)
 
-  module _ (p cell : Number) (p_is : p ≡ number_at line from) (cell-is : cell ≡ number_at line (p.end + 1)) where
+  module _ (p cell : Number) (p_is : p ≡ number_at line from) (cell_is : cell ≡ number_at line (p.end + 1)) where
     reads_by_code : read_in n (words_at line from) ≡ read_of n (length line) p cell
-    reads_by_code = reads_whole ∙ in_turn line from (read_of n (length line)) p cell p_is cell-is
+    reads_by_code = reads_whole ∙ in_turn line from (read_of n (length line)) p cell p_is cell_is
 
     pub read_found : read_test n (length line) p cell ≡ true → some (record { desk = p.value; act = reads cell.value }) ≡ read_in n (words_at line from)
     read_found t = sym (reads_by_code ∙ rw t)
@@ -146,9 +146,9 @@ module _ (line : List ℕ) (from n : ℕ) where
       ∙ delivers_by_numbers (ltb e₁ len && not (ltb e₂ len)) (is_number (word_at line from)) (is_number (word_at line (e₁ + 1))) n (value (word_at line from)) (value (word_at line (e₁ + 1)))
       ∙ rw (not_before e₂ len)
 
-  module _ (q p : Number) (q-is : q ≡ number_at line from) (p_is : p ≡ number_at line (q.end + 1)) where
+  module _ (q p : Number) (q_is : q ≡ number_at line from) (p_is : p ≡ number_at line (q.end + 1)) where
     delivers_by_code : deliver_in n (words_at line from) ≡ deliver_of n (length line) q p
-    delivers_by_code = delivers_whole ∙ in_turn line from (deliver_of n (length line)) q p q-is p_is
+    delivers_by_code = delivers_whole ∙ in_turn line from (deliver_of n (length line)) q p q_is p_is
 
     pub deliver_found : deliver_test n (length line) q p ≡ true → some (record { desk = p.value; act = delivers q.value }) ≡ deliver_in n (words_at line from)
     deliver_found t = sym (delivers_by_code ∙ rw t)
@@ -201,13 +201,13 @@ module _ (line : List ℕ) (from n : ℕ) where
       ∙ writes_by_numbers (ltb e₁ len && ltb e₂ len && not (ltb e₃ len)) (is_number (word_at line from)) (is_number (word_at line (e₁ + 1))) (is_content_word (word_at line (e₂ + 1))) n (value (word_at line from)) (value (word_at line (e₁ + 1))) (content_of_word (word_at line (e₂ + 1)))
       ∙ rw (not_before e₃ len)
 
-  module _ (p cell : Number) (c : Given) (p_is : p ≡ number_at line from) (cell-is : cell ≡ number_at line (p.end + 1)) (c_is : c ≡ content_word_at line (cell.end + 1)) where
+  module _ (p cell : Number) (c : Given) (p_is : p ≡ number_at line from) (cell_is : cell ≡ number_at line (p.end + 1)) (c_is : c ≡ content_word_at line (cell.end + 1)) where
     writes_by_code : write_in n (words_at line from) ≡ write_of n (length line) p cell c
     unfolding number_at
     writes_by_code =
         writes_whole
         ∙ ap (λ (x : Number). write_of n (length line) x (number_at line (x.end + 1)) (content_word_at line ((number_at line (x.end + 1)).end + 1))) (sym p_is)
-        ∙ ap (λ (x : Number). write_of n (length line) p x (content_word_at line (x.end + 1))) (sym cell-is)
+        ∙ ap (λ (x : Number). write_of n (length line) p x (content_word_at line (x.end + 1))) (sym cell_is)
         ∙ ap (write_of n (length line) p cell) (sym c_is)
 
     pub write_found : write_test n (length line) p cell c ≡ true → some (record { desk = p.value; act = writes cell.value c.content }) ≡ write_in n (words_at line from)
@@ -290,7 +290,7 @@ module _ (line : List ℕ) (end : ℕ) (step_of_lem : List (List ℕ) → Option
           let past : length line ≤ end + 1 = omega arith in
           empty_word ∙ ap (λ (l : List ℕ). step_of_lem (parts space l)) (sym (drop_of_length-le line past))
 
-module _ (line : List ℕ) (n : ℕ) (first : Letter) (first-is : first ≡ letter_at line 0) where
+module _ (line : List ℕ) (n : ℕ) (first : Letter) (first_is : first ≡ letter_at line 0) where
   abbrev rest : List (List ℕ)
   rest = cond (ltb first.end (length line)) (words_at line (first.end + 1)) []
 
@@ -299,7 +299,7 @@ module _ (line : List ℕ) (n : ℕ) (first : Letter) (first-is : first ≡ lett
   whole =
       ap (step_of n) (parts_on space line 0)
       ∙ step_by_letter n (word_at line 0) (cond (ltb (end_at line 0) (length line)) (words_at line (end_at line 0 + 1)) [])
-      ∙ ap (λ (x : Letter). by_letter n x.byte (cond (ltb x.end (length line)) (words_at line (x.end + 1)) [])) (sym first-is)
+      ∙ ap (λ (x : Letter). by_letter n x.byte (cond (ltb x.end (length line)) (words_at line (x.end + 1)) [])) (sym first_is)
 
   pub step_other : (first.byte ≡ 119 → ⊥) → (first.byte ≡ 114 → ⊥) → (first.byte ≡ 115 → ⊥) → (first.byte ≡ 100 → ⊥) → (first.byte ≡ 116 → ⊥) → none ≡ step_in n (ended line)
   step_other w r s d t =

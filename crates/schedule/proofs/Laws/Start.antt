@@ -67,15 +67,15 @@ module _ (line : List ℕ) where
       ∙ by_numbers (ltb e₁ len && ltb e₂ len && not (ltb e₃ len)) (is_number (word_at line 0)) (is_number (word_at line (e₁ + 1))) (ltb (mode_of (letter_of (word_at line (e₂ + 1)))) 4) (value (word_at line 0)) (value (word_at line (e₁ + 1))) (mode_of (letter_of (word_at line (e₂ + 1))))
       ∙ rw (not_before e₃ len)
 
-  module _ (n m : Number) (letter : Letter) (mode : ℕ) (n-is : n ≡ number_at line 0) (m_is : m ≡ number_at line (n.end + 1)) (letter_is : letter ≡ letter_at line (m.end + 1)) (Mode-of : mode ≡ mode_of letter.byte) where
+  module _ (n m : Number) (letter : Letter) (mode : ℕ) (n_is : n ≡ number_at line 0) (m_is : m ≡ number_at line (n.end + 1)) (letter_is : letter ≡ letter_at line (m.end + 1)) (mode_found : mode ≡ mode_of letter.byte) where
     by_code : start_in (ended line) ≡ cond (ltb n.end (length line) && ltb m.end (length line) && leb (length line) letter.end && (n.ok && m.ok && ltb mode 4)) (some (record { n = n.value; m = m.value; mode = mode })) none
     unfolding number_at
     by_code =
         whole
-        ∙ ap (λ (x : Number). start_of_parts (length line) x (number_at line (x.end + 1)) (letter_at line ((number_at line (x.end + 1)).end + 1))) (sym n-is)
+        ∙ ap (λ (x : Number). start_of_parts (length line) x (number_at line (x.end + 1)) (letter_at line ((number_at line (x.end + 1)).end + 1))) (sym n_is)
         ∙ ap (λ (x : Number). start_of_parts (length line) n x (letter_at line (x.end + 1))) (sym m_is)
         ∙ ap (start_of_parts (length line) n m) (sym letter_is)
-        ∙ rw (← Mode-of)
+        ∙ rw (← mode_found)
 
     pub start_found : ltb n.end (length line) && ltb m.end (length line) && leb (length line) letter.end && (n.ok && m.ok && ltb mode 4) ≡ true → some (record { n = n.value; m = m.value; mode = mode }) ≡ start_in (ended line)
     start_found t = sym (by_code ∙ rw t)

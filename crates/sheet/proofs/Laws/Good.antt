@@ -28,7 +28,7 @@ use Rattle.layout.specs.Layout.{trailer_bytes, sheet_bytes, entry_of, entries_of
 use Rattle.numbers.specs.Limits.{desks_within, cells_within}
 use Rattle.numbers.proofs.Tests.{and_split, tested}
 use Rattle.sheet.specs.Good.{every, next_above, rising, below, kind_and_day, good}
-use Rattle.sheet.specs.Promises.{OpenOrDay, is_open, is_day_lem}
+use Rattle.sheet.specs.Promises.{OpenOrDay, is_open, is_day}
 use Rattle.layout.specs.Values.{DaysFit}
 use Rattle.sheet.specs.Reading.{no_entry}
 use Rattle.sheet.specs.Promises.{GoodWithin}
@@ -246,7 +246,7 @@ pub open_or_day : (e : Entry) → kind_and_day e ≡ true → OpenOrDay e
 open_or_day e g = by_kind (eqb e.kind 2) refl
   where
     by_kind : (t : Bool) → eqb e.kind 2 ≡ t → OpenOrDay e
-    by_kind true p = let k : e.kind ≡ 2 = eqb-true e.kind 2 p in is_day_lem k (ap (λ (x : ℕ). content_of x (to_z w32 e.day)) k)
+    by_kind true p = let k : e.kind ≡ 2 = eqb-true e.kind 2 p in is_day k (ap (λ (x : ℕ). content_of x (to_z w32 e.day)) k)
     by_kind false p =
         let one : eqb e.kind 1 && eqb e.day 0 ≡ true = sym (or-false _) ∙ (rw p at g) in
         let k : e.kind ≡ 1 = search tested in

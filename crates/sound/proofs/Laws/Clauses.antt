@@ -63,10 +63,10 @@ place_in_causal k p = by_tests (eqb p 0) (eqb k 0)
     by_tests false t = rw (and-true (not t))
 
 -- a pending day that is the shelf's fits where the shelf's does
-same_fits : (is_day_lem : Bool) (d q : ℤ) (t : Bool) → same_day q d ≡ t
-    → (is_day_lem || same_day d (pos 0)) && t ≡ (is_day_lem || same_day d (pos 0)) && (is_day_lem || same_day q (pos 0)) && t
-same_fits is_day_lem d q true e = rw (same_day_lem q d e, and_self (is_day_lem || same_day d (pos 0)))
-same_fits is_day_lem d q false e = rw (and-false (is_day_lem || same_day d (pos 0)), and-false ((is_day_lem || same_day d (pos 0)) && (is_day_lem || same_day q (pos 0))))
+same_fits : (is_day : Bool) (d q : ℤ) (t : Bool) → same_day q d ≡ t
+    → (is_day || same_day d (pos 0)) && t ≡ (is_day || same_day d (pos 0)) && (is_day || same_day q (pos 0)) && t
+same_fits is_day d q true e = rw (same_day_lem q d e, and_self (is_day || same_day d (pos 0)))
+same_fits is_day d q false e = rw (and-false (is_day || same_day d (pos 0)), and-false ((is_day || same_day d (pos 0)) && (is_day || same_day q (pos 0))))
 
 place_in_others : (k p : ℕ) (d q : ℤ)
     → kinds_fit false k p && (day_fits k d && same_day q (wanted_day p d)) ≡ kinds_clause k p && days_clause k d p q && shown_clause k p && agree_clause k d p q

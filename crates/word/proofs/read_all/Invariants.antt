@@ -6,7 +6,7 @@ use lib.ListN.{length}
 use Rattle.word.proofs.read_all.Given as goal
 
 abbrev pub invariant-loop-len : goal.invariant-loop-len
-invariant-loop-len l = (l.len ≤ length l.buf) × (length l.buf ≡ length l.initial.buf)
+invariant-loop-len g l = (l.len ≤ length l.buf) × (length l.buf ≡ length l.initial.buf)
 
 abbrev pub decreases-loop-len : goal.decreases-loop-len
-decreases-loop-len l = length l.buf - l.len
+decreases-loop-len g l = length l.buf - l.len
