@@ -1,8 +1,11 @@
 """Edits of the code, and what the prover says of each, tried in copies of the repository.
 
 Several are checked at once, each in a function of its own: a function is proved for itself, from the contracts of those that it calls,
-and of one that only calls a function that is not proved the prover says so. `rt check` proves again what was touched.
+and of one that only calls a function that is not proved the prover says so. `rt check` proves again what was touched. Goals and facts are
+named after the code, as `returns-then-n-lt12` and `if-n-lt12`: where an edit changes such a name, and the files of the function's proof
+name it, it is tried once more with the new name in them, since any such change would be refused without.
 """
+import difflib
 import os
 import pathlib
 import queue
@@ -18,10 +21,14 @@ OPEN, CLOSE = {'(': ')', '[': ']', '{': '}'}, {')', ']', '}'}
 LINE = re.compile(r'^fn (\S+): (.*)$', re.M)
 ONLY_CALLS = re.compile(r'no proof: it calls .*, which (?:is|are) not proved')
 ERROR = re.compile(r'^(?:note: )?(?:\./)?((?:src|specs|proofs)/\S+?:\d+):\d+: (?:error(?:\[[\w-]+\])?: (.*)|(it is not proved that .*))$', re.M)
-NOT_CODE = re.compile(r'^(?:\./)?(src/\S+?:\d+):\d+: error\[[\w-]+\]: ', re.M)
+NOT_CODE = re.compile(r'^(?:\./)?(src/\S+?:\d+):\d+: (error\[[\w-]+\]: .*)$', re.M)
 VERDICT = re.compile(r'^logic=(proved|not-proved)', re.M)
-MADE = ('Code/Mir.antt', 'Goals.antt', 'Lts.antt', 'Lts/View.antt')
 UNTOLD = re.compile(r'^fn \S+: could not tell|^rattle: no verdict', re.M)
+GONE = re.compile(r'can be named from here|has no field|is not in scope')
+# where the check names the goals, the places in the code and the facts of a function, each in the order of the code; and its code
+NAMES = [('Goals.antt', re.compile(r'^abbrev pub the-fitted-(\S+) :', re.M)), ('Lts/View.antt', re.compile(r'record In-(\S+) :')),
+         ('Lts.antt', re.compile(r'^ +pub ([^\s:]+) :', re.M))]
+CODE = 'Code/Mir.antt'
 
 
 def tokens_of(text):
@@ -157,30 +164,90 @@ def generated(copies, edits, crate, functions):
     with tempfile.TemporaryDirectory(dir=copies.proved.parent) as to:
         checked(copies, edits, crate, '--generated', to, *(word for name in functions for word in ('--start', name)))
         folders = {name: pathlib.Path(to, f'Rattle-{crate}-proofs', *name.split('::')[1:]) for name in functions}
-        return {name: {file: (folder / file).read_text() if (folder / file).is_file() else '' for file in MADE} for name, folder in folders.items()}
-
-
-def is_sure(said):
-    """Whether the code compiles, and the prover could tell of every function."""
-    return bool(VERDICT.search(said)) and not UNTOLD.search(said)
-
-
-def no_code(edits, said):
-    """Those of the edits at which the code does not compile."""
-    places = set(NOT_CODE.findall(said))
-    return [edit for edit in edits if edit.places & places]
-
-
-def smaller(group, said):
-    """The groups to try in place of one of which nothing sure is said: without those that do not compile, or else each by itself."""
-    wrong = no_code(group, said)
-    rest = [edit for edit in group if edit not in wrong]
-    return [[edit] for edit in wrong] + [rest] if wrong and rest else [[edit] for edit in group]
+        return {name: {file: (folder / file).read_text() if (folder / file).is_file() else '' for file in (CODE, *dict(NAMES))} for name, folder in folders.items()}
 
 
 def refused(said):
     """The functions that are not proved themselves, with what is said of each: not those that only call such a function."""
     return {name: told for name, told in LINE.findall(said) if told.startswith(('not proved', 'no proof')) and not ONLY_CALLS.fullmatch(told)}
+
+
+def first_error(edit, said, lost):
+    """The first error in the proof of the function that is edited, or at its code, and whether one is about something that is gone."""
+    proofs = tuple('proofs/' + '/'.join(name.split('::')[1:]) + '/' for name in lost)
+    found = [match for match in ERROR.finditer(said) if match[1] in edit.places or proofs and match[1].startswith(proofs)]
+    shown = [match for match in found if 'was not admitted' not in match[0]]  # that only follows from another error
+    return (f'{shown[0][1]}: {(shown[0][2] or shown[0][3])[:160]}' if shown else ''), any(GONE.search(match[0]) for match in found)
+
+
+def judged(group, said):
+    """What the prover says of each edit of a group that was tried at once: a mark, '' if it is refused, and why."""
+    lost = refused(said)
+    astray = set(lost) - {name for edit in group for name in edit.own(lost)}
+    for edit in group:
+        own = edit.own(lost)
+        where, gone = first_error(edit, said, own)
+        unproved = next((told for told in (lost[name] for name in sorted(own)) if 'did not prove' in told), '')
+        if UNTOLD.search(said) or not VERDICT.search(said):
+            yield edit, 'UNTOLD', 'the prover could not tell'
+        elif astray:
+            yield edit, 'ASTRAY', f'{" ".join(sorted(astray))} is not proved either'
+        elif not own:
+            yield edit, 'NOT REFUSED', 'the function is still proved'
+        elif gone:
+            yield edit, 'UNFIT', where
+        elif where or unproved:
+            yield edit, '', where or unproved[:160]
+        else:
+            yield edit, 'UNSAID', f'no goal of its function is said to be unproved: {lost[sorted(own)[0]][:160]}'
+
+
+def renamed(before, after):
+    """The names of a function's goals, places and facts that an edit changes, each with the one that stands for it then."""
+    for file, name in NAMES:
+        old, new = name.findall(before[file]), name.findall(after[file])
+        for how, a, b, c, d in difflib.SequenceMatcher(None, old, new, False).get_opcodes():
+            for one in old[a:b] if how == 'replace' else ():
+                like = difflib.get_close_matches(one, new[c:d], 1)
+                yield from ((one, other) for other in like)
+
+
+def followed(group, functions, copies):
+    """What the prover says of edits of these functions, whose proofs take the names that the edits give to their goals, places and facts."""
+    crate, texts, after = group[0].crate, {}, generated(copies, group, group[0].crate, functions)
+    copies.made.update(generated(copies, [], crate, [it for it in functions if it not in copies.made]))
+    for function in functions:
+        names = dict(renamed(copies.made[function], after[function]))
+        word = re.compile('|'.join(rf"(?<![\w'-]){re.escape(name)}(?![\w'-])" for name in sorted(names, key=len, reverse=True)))
+        for path in sorted(ROOT.joinpath('crates', crate, 'proofs', *function.split('::')[1:]).glob('*.antt')) if names else ():
+            texts[path.relative_to(ROOT)] = word.sub(lambda found: names[found[0]], path.read_text())
+    return list(judged(group, checked(copies, group, crate, proofs=texts)))
+
+
+def attempt(group, copies):
+    """Each edit of the group with what the prover says of it, and how many checks that took. A mark says what is wrong with it: NOT REFUSED,
+    UNFIT, NO CODE, or that the prover could not tell, refused another function, or did not say why. What is not refused with others is
+    tried alone."""
+    said, again, checks = checked(copies, group, group[0].crate), [], 1
+    if NOT_CODE.search(said) and not VERDICT.search(said):
+        wrong = {place: f'{place}: {error}' for place, error in NOT_CODE.findall(said)[::-1]}  # the first at a place
+        found = [(edit, 'NO CODE', [*wrong.values()][-1]) for edit in group if len(group) == 1]
+        found = found or [(edit, 'NO CODE', wrong[place]) for edit in group for place in [*edit.places & set(wrong)][:1]]
+        rest = [edit for edit in group if edit not in [it[0] for it in found]]
+        again = [rest] if found and rest else [[edit] for edit in rest]
+    else:
+        found = list(judged(group, said))
+        unfit = [edit for edit, mark, _ in found if mark == 'UNFIT']
+        if unfit:
+            functions = sorted({name for edit in unfit for name in edit.own(refused(said))})
+            found, checks = [it for it in found if it[1] != 'UNFIT'] + followed(unfit, functions, copies), checks + 3
+        if len(group) > 1:
+            again = [[edit] for edit, mark, _ in found if mark not in ('', 'UNFIT')]
+            found = [it for it in found if it[1] in ('', 'UNFIT')]
+    for part in again:
+        more, count = attempt(part, copies)
+        found, checks = found + more, checks + count
+    return found, checks
 
 
 def linked(one, other):
