@@ -3,6 +3,7 @@
 --   laid, no_room                  with room the bytes are laid; without it nothing is
 --   laid_next                      what is laid right behind what was laid at the front is laid at the front too: two puts are one
 --   laid_behind                    the same anywhere in a buffer: what is laid right behind what was laid is laid with it
+--   copied                         a copy into a part of a buffer is the bytes laid over it
 --   PutSoFar, put_begun, put_turned, put_ended    the loop that lays bytes
 -- Assumes nothing.
 use mathlib.Core.Path.{◌≡◌, refl, sym, ap, ◌∙◌}
@@ -12,6 +13,7 @@ use native.Mathlib.Omega.{arith}
 use native.Mathlib.Nat.{zero-add, suc-add}
 use native.Mathlib.Numerals.{add-one}
 use lib.ListN.{length, get_or, set, take, drop, length-append, length-set, length-drop}
+use borrow.Rule.Slice.PartMut.{put_mid}
 use lib.Seq.{paste, paste-zero, paste-suc, length-take-le, take_all, take-nil, take-append_seam, drop-append-add, drop-drop}
 use borrow.Author.Tests.{le-leb, lt-leb}
 use Rattle.laying.specs.Laying.{laid_over}
@@ -53,6 +55,16 @@ laid_behind b at x y room =
     ∙ ap (λ (l : List ℕ). l ++ drop (length l) b) (append_assoc (take at b) x y)
     ∙ ap (λ (k : ℕ). take at b ++ (x ++ y) ++ drop k b) all
     ∙ sym (laid b at (x ++ y) (omega (arith, length-append x y)))
+
+-- ---- a copy into a part of a buffer
+
+-- what is left of b when its k bytes from `at` on become x, as `copy_from_slice` and `fill` leave them
+pub copied : (b : List ℕ) (at : ℕ) (x : List ℕ) (k : ℕ) → at + length x ≤ length b → k ≡ length x → put_mid at k b x ≡ laid_over b at x
+copied b at x k room long =
+    ap (λ (n : ℕ). take at b ++ (x ++ drop n (drop at b))) long
+    ∙ ap (λ (l : List ℕ). take at b ++ (x ++ l)) (drop-drop (length x) at b)
+    ∙ sym (append_assoc (take at b) x (drop (at + length x) b))
+    ∙ sym (laid b at x room)
 
 -- ---- the loop
 

@@ -9,15 +9,7 @@ ghost use Rattle.laying.specs.Laying.{laid_over};
 pub fn put(buf: &mut [u8], at: usize, src: &[u8])
     ensures { buf.new ≡ laid_over buf.old at src.now }
 {
-    if buf.len() < at {
-        return;
-    }
-    if buf.len() - at < src.len() {
-        return;
-    }
-    let mut i = 0;
-    while i < src.len() {
-        buf[at + i] = src[i];
-        i += 1;
+    if at <= buf.len() && src.len() <= buf.len() - at {
+        buf[at..at + src.len()].copy_from_slice(src);
     }
 }

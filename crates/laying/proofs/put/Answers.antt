@@ -1,21 +1,18 @@
--- `put` meets its contract: what is laid so far is a part of what is to be laid (`PutSoFar`).
+-- `put` meets its contract: what is copied into a part of the buffer is laid over it there.
 -- Assumes nothing.
-use mathlib.Core.Path.{sym}
 use native.Mathlib.Omega.{arith}
-use Rattle.laying.proofs.Laws.{no_room, put_begun, put_turned, put_ended}
+use mathlib.Core.Path.{sym}
+use Rattle.laying.proofs.Laws.{copied, no_room}
+use Rattle.laying.proofs.put.Goals.{else-at-buf-via-then-at-buf+else-src-buf, else-at-buf-via-else-at-buf}
 use Rattle.laying.proofs.put.Goals as goal
 
-pub returns-then-buf-at : goal.returns-then-buf-at
-returns-then-buf-at c = sym (no_room _ _ c.args.src.now (omega arith))
+pub returns-then-src-buf : goal.returns-then-src-buf
+returns-then-src-buf c = rw c.copy_from_slice.ensures.after (copied c.args.buf.now c.args.at c.args.src.now _ (omega arith) (omega arith))
 
-pub returns-then-buf-at-2 : goal.returns-then-buf-at-2
-returns-then-buf-at-2 c = sym (no_room _ _ _ (omega arith))
-
-pub loop-i-init : goal.loop-i-init
-loop-i-init c = put_begun _ _ _
-
-pub loop-i-preserved : goal.loop-i-preserved
-loop-i-preserved c = put_turned _ _ _ _ _ c.loop-i.invariant (omega arith) (omega arith)
-
-pub returns : goal.returns
-returns c = put_ended _ _ _ _ _ c.loop-i.invariant (omega arith) (omega arith)
+pub returns-else-at-buf : goal.returns-else-at-buf
+returns-else-at-buf c =
+    sym (no_room _ _ _ (
+    elim c.else-at-buf.branch [
+      | else-at-buf-via-then-at-buf+else-src-buf w ↦ omega arith
+      | else-at-buf-via-else-at-buf w ↦ omega arith
+    ]))
