@@ -1,7 +1,8 @@
 -- 01, "Standing": "blank gives unknown, open gives open, a day gives its number minus today's, exact in 64 bits.
 -- 0 days left is still cleared; below 0 is past."
 -- Assumes nothing.
-use Rattle.std.specs.Prelude.{Bool, true, false, ℤ, pos, negsuc, ◌-ℤ◌}
+use Rattle.std.specs.Prelude.{Bool, true, false, ℕ, ℤ, pos, negsuc, ◌-ℤ◌, List, ◌++◌, codes}
+use Rattle.std.specs.Fmt.{signed_decimal}
 use Rattle.answer.specs.Answer.{Answer, answered}
 use Rattle.content.specs.declared.Content.{Content}
 use Rattle.content.specs.declared.Content.TheVariants as content
@@ -39,3 +40,9 @@ abbrev pub said_standing : Standing → Answer Stands
 said_standing standing.Unknown = answered unknown
 said_standing standing.Open = answered no_end
 said_standing (standing.Left n) = answered (left n)
+
+-- a standing as the programs print it: 01, "Standing", "blank gives unknown, open gives open", and so many "days left"
+abbrev pub shown : Standing → List ℕ
+shown standing.Unknown = codes "unknown"
+shown standing.Open = codes "open"
+shown (standing.Left n) = signed_decimal n ++ codes " days left"

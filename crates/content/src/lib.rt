@@ -4,14 +4,16 @@
 // words that stand in one.
 #![tactic(auto)]
 
-ghost use Rattle.std.specs.Prelude.{◌≡◌, ◌-ℤ◌};
+ghost use Rattle.std.specs.Prelude.{◌≡◌, Option, Some};
 ghost use Rattle.answer.specs.Answer.{answered};
-ghost use Rattle.content.specs.Content.{kind_of, day_of, content_of};
-ghost use Rattle.content.specs.Standing.{standing_on, said_standing};
+ghost use Rattle.content.specs.Content.{kind_of, day_of, content_of, shown};
+ghost use Rattle.content.specs.Standing.{standing_on, said_standing, shown as shown·standing};
+
+use std::fmt;
 
 // "A cell's content is blank, open, or a day with its signed 32-bit number; each is a case of its
 // own." Blank means never written.
-#[derive(Clone, Copy)]
+#[derive(Clone, Copy, Debug, PartialEq, Eq)]
 pub enum Content {
     Blank,
     Open,
@@ -19,7 +21,7 @@ pub enum Content {
 }
 
 // The standing of a content on a given day: not known, open, or so many days left.
-#[derive(Clone, Copy)]
+#[derive(Clone, Copy, Debug, PartialEq, Eq)]
 pub enum Standing {
     Unknown,
     Open,
@@ -34,7 +36,7 @@ impl Content {
         match self {
             Content::Blank => Standing::Unknown,
             Content::Open => Standing::Open,
-            Content::Day(day) => Standing::Left(days_left(day, today)),
+            Content::Day(day) => Standing::Left(i64::from(day) - i64::from(today)),
         }
     }
 
@@ -54,8 +56,7 @@ impl Content {
         ensures { result ≡ day_of self }
     {
         match self {
-            Content::Blank => 0,
-            Content::Open => 0,
+            Content::Blank | Content::Open => 0,
             Content::Day(day) => day,
         }
     }
@@ -64,19 +65,36 @@ impl Content {
     pub fn of(kind: u8, day: i32) -> Content
         ensures { result ≡ content_of kind day }
     {
-        if kind == 1 {
-            return Content::Open;
+        match kind {
+            1 => Content::Open,
+            2 => Content::Day(day),
+            _ => Content::Blank,
         }
-        if kind == 2 {
-            return Content::Day(day);
-        }
-        Content::Blank
     }
 }
 
-// From one day to another, exact: both have 32 bits, and the difference has 64.
-fn days_left(day: i32, today: i32) -> i64
-    ensures { result ≡ day -ℤ today }
-{
-    (day as i64) - (today as i64)
+// "blank", "open", "day -3": a content as the programs print it.
+impl fmt::Display for Content {
+    ghost output = { λ c. Some (shown c) };
+
+    fn fmt<W: fmt::Write>(&self, f: &mut fmt::Formatter<W>) -> fmt::Result {
+        match self {
+            Content::Blank => f.write_str("blank"),
+            Content::Open => f.write_str("open"),
+            Content::Day(day) => write!(f, "day {day}"),
+        }
+    }
+}
+
+// "unknown", "open", "-3 days left": a standing as the programs print it.
+impl fmt::Display for Standing {
+    ghost output = { λ s. Some (shown·standing s) };
+
+    fn fmt<W: fmt::Write>(&self, f: &mut fmt::Formatter<W>) -> fmt::Result {
+        match self {
+            Standing::Unknown => f.write_str("unknown"),
+            Standing::Open => f.write_str("open"),
+            Standing::Left(days) => write!(f, "{days} days left"),
+        }
+    }
 }
