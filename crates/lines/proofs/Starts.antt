@@ -4,6 +4,8 @@
 --   every_start_has_a_line : EveryStartHasALine
 --   said_start_tells_apart : StartsApart
 -- Assumes nothing.
+use Rattle.std.proofs.Common as std
+use Rattle.std.proofs.Common.{None, Some}
 use mathlib.Core.Path.{◌≡◌, refl, sym, ap, ◌∙◌, subst}
 use mathlib.Core.List.{List, [], ◌∷◌}
 use mathlib.Core.Bool.{Bool, true, false, cond, ◌&&◌}
@@ -15,8 +17,7 @@ use borrow.Author.Tests.{eqb-true, eqb-false}
 use Rattle.answer.proofs.Laws as answer
 use Rattle.text.specs.Decimal.{value, decimal}
 use Rattle.numbers.proofs.Tests.{and_split}
-use Rattle.schedule.specs.declared.Start as declared
-use Rattle.schedule.specs.declared.Start.TheVariants as start
+use Rattle.schedule.specs.declared.Shelf as declared
 use Rattle.schedule.specs.Lines.{Line, ended, cut}
 use Rattle.schedule.specs.Words.{words, is, is_number}
 use Rattle.schedule.specs.Start.{Start, mode_in, start_with, start_of, start_in, said_start}
@@ -127,16 +128,16 @@ every_start_has_a_line x range =
     ap start_of (words_spaced (decimal x.n) (decimal x.m ∷ mode_word x.mode ∷ []) (rw (number_free x.n n_small, number_free x.m m_small, said.without_spaces)))
     ∙ rw (number_said x.n n_small, number_said x.m m_small, (number_back x.n n_small).same_number, (number_back x.m m_small).same_number, said.says_it)
 
--- ---- the code's enum
+-- ---- the code's struct
 
-starting : Option Start → declared.Start
-starting none = start.Bad
-starting (some x) = start.Shelf x.n x.m x.mode
+starting : Option Start → std.Option declared.Shelf
+starting none = None
+starting (some x) = Some (record { n = x.n; m = x.m; mode = x.mode })
 
-found : (a : declared.Start) → starting (said_start a) ≡ a
+found : (a : std.Option declared.Shelf) → starting (said_start a) ≡ a
 unfolding starting
-found (start.Shelf n m mode) = refl
-found start.Bad = refl
+found None = refl
+found (Some shelf) = refl
 
 pub said_start_tells_apart : StartsApart
 said_start_tells_apart a b = answer.apart said_start starting found

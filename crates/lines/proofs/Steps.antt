@@ -6,6 +6,8 @@
 --   said_act_tells_apart : ActsApart
 --   said_step_tells_apart : StepsApart
 -- Assumes nothing.
+use Rattle.std.proofs.Common as std
+use Rattle.std.proofs.Common.{None, Some}
 use mathlib.Core.Path.{◌≡◌, refl, sym, ap, ◌∙◌, subst}
 use mathlib.Core.List.{List, [], ◌∷◌}
 use mathlib.Core.Bool.{Bool, true, false, cond, ◌&&◌}
@@ -23,7 +25,6 @@ use Rattle.content.specs.declared.Content.{Content}
 use Rattle.schedule.specs.declared.Act as declared_act
 use Rattle.schedule.specs.declared.Act.TheVariants as act
 use Rattle.schedule.specs.declared.Step as declared_step
-use Rattle.schedule.specs.declared.Step.TheVariants as step
 use Rattle.schedule.specs.Step.{Act, writes, reads, sends, delivers, takes, Step, write_in, read_in, deliver_in, desk_in, step_of, step_in, said_act, said_step}
 use Rattle.lines.specs.Line.{spaced, content_word, words_by, step_line}
 use Rattle.lines.specs.Promises.{StepInRange, StepsAreInRange, OneLinePerStep, EveryStepHasALine, ActsApart, StepsApart}
@@ -221,7 +222,7 @@ module _ (n : ℕ) (few : n ≤ 4294967296) where
 pub every_step_has_a_line : EveryStepHasALine
 every_step_has_a_line n step few range = reads_back n few step.desk step.act range
 
--- ---- the code's enums
+-- ---- the code's enum, and its struct
 
 acting : Act → declared_act.Act
 acting (writes cell c) = act.Write cell c
@@ -241,14 +242,14 @@ act_found act.Take = refl
 pub said_act_tells_apart : ActsApart
 said_act_tells_apart a b = answer.apart said_act acting act_found
 
-stepping : Option Step → declared_step.Step
-stepping none = step.Bad
-stepping (some x) = step.Does x.desk (acting x.act)
+stepping : Option Step → std.Option declared_step.Step
+stepping none = None
+stepping (some x) = Some (record { desk = x.desk; act = acting x.act })
 
-step_found : (a : declared_step.Step) → stepping (said_step a) ≡ a
+step_found : (a : std.Option declared_step.Step) → stepping (said_step a) ≡ a
 unfolding stepping
-step_found (step.Does p a) = ap (step.Does p) (act_found a)
-step_found step.Bad = refl
+step_found None = refl
+step_found (Some step) = rw (act_found step.act)
 
 pub said_step_tells_apart : StepsApart
 said_step_tells_apart a b = answer.apart said_step stepping step_found

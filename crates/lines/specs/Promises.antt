@@ -1,15 +1,15 @@
 -- What is promised of the lines of a schedule. Together: a line says a step exactly if it is the line of a step within the limits, and line 1
--- likewise; so no other spaces, digits, signs or letters are read. And of the enums of `schedule` and `printing`, that two different values never
+-- likewise; so no other spaces, digits, signs or letters are read. And of the types of `schedule` and `printing`, that two different values never
 -- say the same. proofs/Steps.antt and proofs/Starts.antt prove it, and proofs/Printed.antt what is of `StepAnswer`.
 -- Assumes nothing.
-use Rattle.std.specs.Prelude.{◌≡◌, ℕ, ◌<◌, ◌≤◌}
+use Rattle.std.specs.Prelude.{◌≡◌, ℕ, ◌<◌, ◌≤◌, Option}
 use Rattle.std.proofs.Math.Option.{some}
 use Rattle.std.specs.Int.{w32}
 use Rattle.std.proofs.Common.{SFits}
 use Rattle.content.specs.declared.Content.{Content}
 use Rattle.content.specs.declared.Content.TheVariants.{Blank}
 use Rattle.content.specs.Content.{day_of}
-use Rattle.schedule.specs.declared.Start as declared_start
+use Rattle.schedule.specs.declared.Shelf as declared_shelf
 use Rattle.schedule.specs.declared.Act as declared_act
 use Rattle.schedule.specs.declared.Step as declared_step
 use Rattle.printing.specs.declared.StepAnswer as declared_answer
@@ -61,18 +61,18 @@ OneLinePerStart = (l : Line) (x : Start) → start_in l ≡ some x → l ≡ end
 abbrev pub EveryStartHasALine : Type 0
 EveryStartHasALine = (x : Start) → StartInRange x → start_in (ended (start_line x)) ≡ some x
 
--- ---- the code's enums: two different values never say the same
+-- ---- the code's types: two different values never say the same
 
 -- what `start_in` answers
 abbrev pub StartsApart : Type 0
-StartsApart = (a b : declared_start.Start) → said_start a ≡ said_start b → a ≡ b
+StartsApart = (a b : Option declared_shelf.Shelf) → said_start a ≡ said_start b → a ≡ b
 
 -- what `step_in` answers, and the act in it
 abbrev pub ActsApart : Type 0
 ActsApart = (a b : declared_act.Act) → said_act a ≡ said_act b → a ≡ b
 
 abbrev pub StepsApart : Type 0
-StepsApart = (a b : declared_step.Step) → said_step a ≡ said_step b → a ≡ b
+StepsApart = (a b : Option declared_step.Step) → said_step a ≡ said_step b → a ≡ b
 
 -- what a step comes to
 abbrev pub StepAnswersApart : Type 0

@@ -11,7 +11,7 @@ ghost use Rattle.play.specs.Rounds.{too_long, printed, Prints};
 ghost use Rattle.play.specs.Parts.Running.{mode_in_force, ShelfPlays, shelf_text};
 
 use desk::Desk;
-use schedule::Start;
+use schedule::Shelf;
 
 mod making;
 mod running;
@@ -74,8 +74,8 @@ pub fn play(input: &[u8], out: &mut [u8; 64064]) -> usize
         return put_alone(out, b"bad start\n");
     }
     match schedule::start_in(&input[..end]) {
-        Start::Bad => put_alone(out, b"bad start\n"),
-        Start::Shelf { n, m, mode } => {
+        None => put_alone(out, b"bad start\n"),
+        Some(Shelf { n, m, mode }) => {
             let force = mode_in_force(n, m, mode);
             if force == 0 {
                 return put_alone(out, b"bad start\n");

@@ -40,12 +40,12 @@ fn no_sheets() -> [u8; 6368]
 }
 
 // The step of the line from `from` to `end`; a line that no line feed ends is bad.
-fn step_at(input: &[u8], from: usize, end: usize, n: u32) -> Step
+fn step_at(input: &[u8], from: usize, end: usize, n: u32) -> Option<Step>
     requires { from ≤ end }
     ensures { said_step result ≡ step_at n input.now from end }
 {
     if input.len() <= end {
-        return Step::Bad;
+        return None;
     }
     schedule::step_in(&input[from..end], n)
 }
@@ -73,7 +73,7 @@ pub(crate) fn run(
     while i < input.len() {
         let end = text::part_end(input, i, b'\n');
         let step = step_at(input, i, end, n);
-        let Step::Does { desk, act } = step else {
+        let Some(Step { desk, act }) = step else {
             return printing::put_line(out, w, k, StepAnswer::BadLine);
         };
         let p = desk as usize;

@@ -1,12 +1,12 @@
 -- 01, "The program `rounds`": "Line 1: desks, cells, mode letter (`s`, `c`, `k` for cache, `-` for default)".
 -- Assumes nothing.
-use Rattle.std.specs.Prelude.{ℕ, cond, ◌&&◌, List, [], ◌∷◌}
+use Rattle.std.specs.Prelude as std
+use Rattle.std.specs.Prelude.{ℕ, cond, ◌&&◌, List, [], ◌∷◌, None, Some}
 use Rattle.std.proofs.Math.Option.{Option, none, some}
 use Rattle.text.specs.Decimal.{value}
 use Rattle.schedule.specs.Lines.{Line, ended, cut}
 use Rattle.schedule.specs.Words.{words, is, is_number}
-use Rattle.schedule.specs.declared.Start as declared
-use Rattle.schedule.specs.declared.Start.TheVariants as start
+use Rattle.schedule.specs.declared.Shelf as declared
 
 -- desks, cells, mode
 pub record Start : Type 0 where
@@ -34,7 +34,7 @@ unfoldable pub start_in : Line → Option Start
 start_in (ended line) = start_of (words line)
 start_in (cut line) = none
 
--- what each case of the code's enum says
-abbrev pub said_start : declared.Start → Option Start
-said_start (start.Shelf n m mode) = some (record { n = n; m = m; mode = mode })
-said_start start.Bad = none
+-- what the code answers: nothing, where the line says no shelf
+abbrev pub said_start : std.Option declared.Shelf → Option Start
+said_start None = none
+said_start (Some shelf) = some (record { n = shelf.n; m = shelf.m; mode = shelf.mode })

@@ -1,7 +1,8 @@
 -- 01, "The program `rounds`": "Steps: `w` desk cell day-or-`open`; `r` desk cell; `s` desk; `d` sender receiver (sender's latest sheet, again if
 -- wanted); `t` desk."
 -- Assumes nothing.
-use Rattle.std.specs.Prelude.{ℕ, cond, ◌&&◌, List, [], ◌∷◌}
+use Rattle.std.specs.Prelude as std
+use Rattle.std.specs.Prelude.{ℕ, cond, ◌&&◌, List, [], ◌∷◌, None, Some}
 use Rattle.std.proofs.Math.Option.{Option, none, some}
 use Rattle.content.specs.declared.Content.{Content}
 use Rattle.text.specs.Decimal.{value}
@@ -10,7 +11,6 @@ use Rattle.schedule.specs.Words.{words, is, is_number, is_desk, is_content_word,
 use Rattle.schedule.specs.declared.Act as declared_act
 use Rattle.schedule.specs.declared.Act.TheVariants as act
 use Rattle.schedule.specs.declared.Step as declared
-use Rattle.schedule.specs.declared.Step.TheVariants as step
 
 -- what a desk is to do
 pub data Act : Type 0 where
@@ -72,7 +72,7 @@ unfoldable pub step_in : ℕ → Line → Option Step
 step_in n (ended line) = step_of n (words line)
 step_in n (cut line) = none
 
--- what each case of the code's enums says
+-- what each case of the code's enum says
 abbrev pub said_act : declared_act.Act → Act
 said_act (act.Write cell c) = writes cell c
 said_act (act.Read cell) = reads cell
@@ -80,7 +80,7 @@ said_act act.Send = sends
 said_act (act.Deliver q) = delivers q
 said_act act.Take = takes
 
--- nothing, where the line is bad
-abbrev pub said_step : declared.Step → Option Step
-said_step (step.Does p a) = some (record { desk = p; act = said_act a })
-said_step step.Bad = none
+-- what the code answers: nothing, where the line is bad
+abbrev pub said_step : std.Option declared.Step → Option Step
+said_step None = none
+said_step (Some step) = some (record { desk = step.desk; act = said_act step.act })

@@ -17,10 +17,10 @@ mod words;
 
 // "Line 1: desks, cells, mode letter". The mode is open's: 0 for the default.
 #[derive(Clone, Copy)]
-pub enum Start {
-    Shelf { n: u32, m: u32, mode: u32 },
-    // A line that says no shelf.
-    Bad,
+pub struct Shelf {
+    pub n: u32,
+    pub m: u32,
+    pub mode: u32,
 }
 
 // What a desk is to do.
@@ -36,10 +36,9 @@ pub enum Act {
 
 // What a line says as a step: which desk, and what it does.
 #[derive(Clone, Copy)]
-pub enum Step {
-    Does { desk: u32, act: Act },
-    // A bad line.
-    Bad,
+pub struct Step {
+    pub desk: u32,
+    pub act: Act,
 }
 
 // How many lines a text has, with one that no line feed ends.
@@ -58,8 +57,8 @@ pub fn lines_in(input: &[u8]) -> usize
     count + cut
 }
 
-// What a line, without its line feed, says as the first.
-pub fn start_in(line: &[u8]) -> Start
+// What a line, without its line feed, says as the first; nothing, where it says no shelf.
+pub fn start_in(line: &[u8]) -> Option<Shelf>
     ensures { said_start result ≡ start_in (ended line.now) }
 {
     let n = words::number_at(line, 0);
@@ -68,17 +67,17 @@ pub fn start_in(line: &[u8]) -> Start
     let mode = words::mode_of(letter.byte);
     let three = (n.end < line.len()) & (m.end < line.len()) & (line.len() <= letter.end);
     if three & (n.ok & m.ok & (mode < 4)) {
-        return Start::Shelf {
+        return Some(Shelf {
             n: n.value,
             m: m.value,
-            mode: mode,
-        };
+            mode,
+        });
     }
-    Start::Bad
+    None
 }
 
-// What a line, without its line feed, says as a step, on a shelf of n desks.
-pub fn step_in(line: &[u8], n: u32) -> Step
+// What a line, without its line feed, says as a step, on a shelf of n desks; nothing, where it is bad.
+pub fn step_in(line: &[u8], n: u32) -> Option<Step>
     ensures { said_step result ≡ step_in n (ended line.now) }
 {
     let first = words::letter_at(line, 0);
@@ -90,6 +89,6 @@ pub fn step_in(line: &[u8], n: u32) -> Step
         b's' => steps::desk_in(line, from, n, Act::Send),
         b'd' => steps::deliver_in(line, from, n),
         b't' => steps::desk_in(line, from, n, Act::Take),
-        _ => Step::Bad,
+        _ => None,
     }
 }

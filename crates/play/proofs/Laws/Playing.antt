@@ -6,6 +6,8 @@
 --   run_turned, run_bad                  a turn, and one that ends the run
 -- Assumes nothing.
 use Prim.Native.Nat.{ℕ, ◌+◌, ◌*◌, ◌-◌, ◌<◌, ◌≤◌}
+use Rattle.std.proofs.Common as std
+use Rattle.std.proofs.Common.{None, Some}
 use mathlib.Core.Path.{◌≡◌, refl, sym, ap, ◌∙◌, subst}
 use mathlib.Core.List.{List, [], ◌∷◌, ◌++◌, append_assoc, append-nil}
 use mathlib.Core.Option.{Option, some}
@@ -23,7 +25,6 @@ use Rattle.runs.specs.Run.{State, start}
 use Rattle.text.specs.Separated.{first_part, line_feed}
 use Rattle.schedule.specs.declared.Act.{Act}
 use Rattle.schedule.specs.declared.Step as declared
-use Rattle.schedule.specs.declared.Step.TheVariants as cases
 use Rattle.schedule.specs.Lines.{Line, ended, lines_of}
 use Rattle.schedule.specs.Step.{Step, said_act, said_step}
 use Rattle.lines.proofs.Steps.{steps_are_in_range}
@@ -114,7 +115,7 @@ module _ (input : List ℕ) (from n m mode : ℕ) (out₀ : List ℕ) (at : ℕ)
 
     -- a turn: the line, and what it says
     module _ (before : i < length input) (end : ℕ) (ends : end ≡ i + length (first_part line_feed (drop i input)))
-        (step : declared.Step) (says : said_step step ≡ step_at n input i end) where
+        (step : std.Option declared.Step) (says : said_step step ≡ step_at n input i end) where
       -- a line is left, and has room
       line_room : w + 64 ≤ length out
       line_room = omega (arith, so.room, one_line n input i end before ends, out_long)
@@ -153,12 +154,12 @@ module _ (input : List ℕ) (from n m mode : ℕ) (out₀ : List ℕ) (at : ℕ)
             ∙ sym (append_assoc so.done line (numbered (k + 1) rest))
 
       -- "prints its step number and `bad line` and ends the run"
-      pub run_bad : step ≡ cases.Bad → (out' : List ℕ) (w' : ℕ) → record { bytes = out'; end = w' } ≡ wrote out w (line_text k bad_line) → w' ≤ w + 64
+      pub run_bad : step ≡ None → (out' : List ℕ) (w' : ℕ) → record { bytes = out'; end = w' } ≡ wrote out w (line_text k bad_line) → w' ≤ w + 64
           → Ran (run_of input from n m mode) out₀ at out' w'
       unfolding numbered
       run_bad e out' w' put near =
           let is : run_of input from n m mode ≡ so.done ++ line_text k bad_line =
-          whole_with bad_line out' w' put near [] (ap (λ (x : declared.Step). answers_then so.state (said_step x) (λ t. step_answers n t (lines_of (drop (end + 1) input)))) e)
+          whole_with bad_line out' w' put near [] (ap (λ (x : std.Option declared.Step). answers_then so.state (said_step x) (λ t. step_answers n t (lines_of (drop (end + 1) input)))) e)
           ∙ append-nil (so.done ++ line_text k bad_line)
           in
           record {
@@ -167,8 +168,14 @@ module _ (input : List ℕ) (from n m mode : ℕ) (out₀ : List ℕ) (at : ℕ)
             room = omega (arith, near, so.room, one_line n input i end before ends);
           }
 
-      -- a step of desk p
-      module _ (p : ℕ) (a : Act) (is : step ≡ cases.Does p a) where
+      -- a step of a desk
+      module _ (does : declared.Step) (is : step ≡ Some does) where
+        abbrev p : ℕ
+        p = does.desk
+
+        abbrev a : Act
+        a = does.act
+
         abbrev st : Step
         st = record { desk = p; act = said_act a }
 
@@ -238,7 +245,7 @@ module _ (input : List ℕ) (from n m mode : ℕ) (out₀ : List ℕ) (at : ℕ)
                 place = further x out' w' put near;
                 whole =
                     whole_with x out' w' put near rest
-                    (ap (λ (z : declared.Step). answers_then so.state (said_step z) (λ t. step_answers n t (lines_of (drop (end + 1) input)))) is
+                    (ap (λ (z : std.Option declared.Step). answers_then so.state (said_step z) (λ t. step_answers n t (lines_of (drop (end + 1) input)))) is
                     ∙ ap (λ (v : StepAnswer). v ∷ rest) (sym f.answer_is));
                 room = omega (arith, near, b.one_less, so.room);
                 few_lines = omega (arith, b.one_less, so.few_lines);

@@ -4,6 +4,7 @@
 --   steps_at                              a set for `search`: `step_at`
 -- Assumes nothing.
 use Prim.Native.Nat.{ℕ, ◌+◌, ◌-◌, ◌<◌, ◌≤◌}
+use Rattle.std.proofs.Common as std
 use mathlib.Core.Path.{◌≡◌, refl, sym, ap, ◌∙◌}
 use mathlib.Core.Bool.{Bool, cond, ◌||◌}
 use mathlib.Core.List.{List, []}
@@ -83,7 +84,7 @@ module _ (n : ℕ) (input : List ℕ) (from end : ℕ) where
   pub step_cut : length input ≤ end → none ≡ step_at n input from end
   step_cut h = sym (ap (λ (t : Bool). cond t (step_in n (ended (take (end - from) (drop from input)))) none) (le-ltb end (length input) h))
 
-  pub step_ended : end < length input → (s : declared.Step) → said_step s ≡ step_in n (ended (take (end - from) (drop from input))) → said_step s ≡ step_at n input from end
+  pub step_ended : end < length input → (s : std.Option declared.Step) → said_step s ≡ step_in n (ended (take (end - from) (drop from input))) → said_step s ≡ step_at n input from end
   step_ended h s is = is ∙ sym (ap (λ (t : Bool). cond t (step_in n (ended (take (end - from) (drop from input)))) none) (lt-ltb end (length input) h))
 
 pub ruleset steps_at = (step_cut, step_ended)

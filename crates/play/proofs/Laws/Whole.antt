@@ -4,6 +4,8 @@
 --   plays                             a set for `search`: `play`
 -- Assumes nothing.
 use Prim.Native.Nat.{ℕ, ◌+◌, ◌-◌, ◌<◌, ◌≤◌}
+use Rattle.std.proofs.Common as std
+use Rattle.std.proofs.Common.{None, Some}
 use mathlib.Core.Path.{◌≡◌, refl, sym, ap, ◌∙◌, subst}
 use mathlib.Core.Bool.{Bool, true, false, cond, false≢true}
 use mathlib.Core.List.{List, [], ◌∷◌, ◌++◌}
@@ -24,8 +26,7 @@ use Rattle.text.specs.Text.{text}
 use Rattle.text.specs.Separated.{first_part, line_feed}
 use Rattle.schedule.specs.Lines.{Line, ended, lines_of}
 use Rattle.schedule.specs.Start.{Start, start_in, said_start}
-use Rattle.schedule.specs.declared.Start as declared
-use Rattle.schedule.specs.declared.Start.TheVariants as cases
+use Rattle.schedule.specs.declared.Shelf as declared
 use Rattle.schedule.proofs.Laws.Lines.{no_lines}
 use Rattle.printing.specs.Printing.{wrote, header_text}
 use Rattle.answer.specs.Answer.{accepted}
@@ -167,18 +168,18 @@ module _ (input out : List ℕ) (long : length out ≡ 64064) where
               let all : end - 0 ≡ end = omega arith in
               ended_here 1 input 0 end (omega arith) ends h ∙ ap (λ (z : ℕ). ended (take z input) ∷ lines_of (drop (end + 1) input)) all
 
-          module _ (s : declared.Start) (says : said_start s ≡ start_in (ended (take end input))) where
+          module _ (s : std.Option declared.Shelf) (says : said_start s ≡ start_in (ended (take end input))) where
             by_start : printed input ≡ run_text (said_start s) (lines_of (drop (end + 1) input))
             by_start = by_lines ∙ ap lines_text first_line ∙ ap (λ (o : Option Start). run_text o (lines_of (drop (end + 1) input))) (sym says)
 
-            pub played_bad : s ≡ cases.Bad → (out' : List ℕ) → out' ≡ laid_over out 0 (text "bad start\n") → (r : ℕ) → r ≡ length (text "bad start\n") → Prints (printed input) out out' r
-            played_bad e = bad_start_lem (by_start ∙ ap (λ (x : declared.Start). run_text (said_start x) (lines_of (drop (end + 1) input))) e)
+            pub played_bad : s ≡ None → (out' : List ℕ) → out' ≡ laid_over out 0 (text "bad start\n") → (r : ℕ) → r ≡ length (text "bad start\n") → Prints (printed input) out out' r
+            played_bad e = bad_start_lem (by_start ∙ ap (λ (x : std.Option declared.Shelf). run_text (said_start x) (lines_of (drop (end + 1) input))) e)
 
-            module _ (n m mode : ℕ) (is : s ≡ cases.Shelf n m mode) (force : ℕ) (force_is : force ≡ mode_in_force (record { n = n; m = m; mode = mode })) where
+            module _ (n m mode : ℕ) (is : s ≡ Some (record { n = n; m = m; mode = mode })) (force : ℕ) (force_is : force ≡ mode_in_force (record { n = n; m = m; mode = mode })) where
               by_opening : {b : Bool} → opens (record { n = n; m = m; mode = mode }) ≡ b → printed input ≡ cond b (shelf_text input (end + 1) (record { n = n; m = m; mode = mode })) bad_start
               by_opening e =
                   by_start
-                  ∙ ap (λ (x : declared.Start). run_text (said_start x) (lines_of (drop (end + 1) input))) is
+                  ∙ ap (λ (x : std.Option declared.Shelf). run_text (said_start x) (lines_of (drop (end + 1) input))) is
                   ∙ ap (λ (b : Bool). cond b (shelf_text input (end + 1) (record { n = n; m = m; mode = mode })) bad_start) e
 
               pub played_none : force ≡ 0 → (out' : List ℕ) → out' ≡ laid_over out 0 (text "bad start\n") → (r : ℕ) → r ≡ length (text "bad start\n") → Prints (printed input) out out' r

@@ -19,8 +19,8 @@ returns-then-force-eq0 c = search (plays, rules)
 pub play_shelf-requires : goal.play_shelf-requires
 play_shelf-requires c = search (plays, rules)
 
-pub returns-in-Bad : goal.returns-in-Bad
-returns-in-Bad c = search (plays, rules)
+pub returns-in-None : goal.returns-in-None
+returns-in-None c = search (plays, rules)
 
 pub returns-else-force-eq0 : goal.returns-else-force-eq0
 returns-else-force-eq0 c = search (plays, rules)

@@ -15,6 +15,7 @@ use native.Mathlib.Omega.{arith}
 use lib.Dec.{leb, ltb, eqb}
 use lib.ListN.{length, drop_of_length-le}
 use borrow.Author.Tests.{ltb-false, ne_eqb}
+use Rattle.std.proofs.Common as std
 use Rattle.schedule.specs.declared.Step as declared
 use Rattle.schedule.specs.Step.{Act, writes, reads, sends, delivers, takes, Step, said_step}
 use Rattle.content.specs.declared.Content.{Content}
@@ -306,7 +307,7 @@ module _ (line : List ℕ) (n : ℕ) (first : Letter) (first_is : first ≡ lett
       sym (whole ∙ rw (ne_eqb first.byte 119 w, ne_eqb first.byte 114 r, ne_eqb first.byte 115 s, ne_eqb first.byte 100 d, ne_eqb first.byte 116 t))
 
   -- b is what the rest of the line says
-  module _ (b : declared.Step) where
+  module _ (b : std.Option declared.Step) where
     pub step_w : first.byte ≡ 119 → said_step b ≡ write_in n (words_at line (first.end + 1)) → said_step b ≡ step_in n (ended line)
     step_w e is = is ∙ sym (whole ∙ rw e (rest_of line first.end (write_in n) refl))
 

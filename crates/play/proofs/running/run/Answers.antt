@@ -56,7 +56,7 @@ loop-i-smaller c = search (turns, rules)
 pub loop-i-preserved : goal.loop-i-preserved
 loop-i-preserved c =
     run_turned _ _ _ _ _ _ _ _ _ _ _ _ _ _ _ c.loop-i.invariant (omega arith) _ c.part_end-end.ensures c.step_at-step.result
-    c.step_at-step.ensures _ _ c.in-Does.is c.make-o.result _ _ c.make-o.ensures _ _ c.put_line-w.ensures.result_after
+    c.step_at-step.ensures _ c.in-Some.is c.make-o.result _ _ c.make-o.ensures _ _ c.put_line-w.ensures.result_after
     c.put_line-w.ensures.upper_bound
 
 pub returns : goal.returns
