@@ -32,10 +32,7 @@ pub(crate) fn hold<R: Env + Files + Eprint + Alloc>(rt: &R) -> Option<R::File> {
         .open(rt, name)
     {
         Ok(file) => Some(file),
-        Err(e) => {
-            word::fail(rt, name, e);
-            None
-        }
+        Err(e) => word::fail(rt, name, e),
     }
 }
 
@@ -53,32 +50,29 @@ pub(crate) fn replace<R: Env + Files + Eprint + Alloc>(
     rt: &R,
     mut file: R::File,
     book: &[u8],
-) -> bool {
+) -> Option<()> {
     if let Err(e) = file.write_all(book) {
-        word::fail(
+        return word::fail(
             rt,
             "The book stays as it was, for the new one cannot be written",
             e,
         );
-        return false;
     }
     if let Err(e) = file.sync_all() {
-        word::fail(
+        return word::fail(
             rt,
             "The book stays as it was, for the new one cannot be kept",
             e,
         );
-        return false;
     }
     if let Err(e) = renamed(rt) {
-        word::fail(
+        return word::fail(
             rt,
             "The book stays as it was, for the new one cannot be put in its place",
             e,
         );
-        return false;
     }
-    true
+    Some(())
 }
 
 fn renamed(rt: &(impl Env + Files)) -> io::Result<()> {

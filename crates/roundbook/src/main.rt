@@ -16,36 +16,33 @@ mod slices;
 
 use arguments::{Number, Wanted};
 use book::Added;
-use std::rt::Runtime;
-use word::Input;
+use std::rt::{Env, Runtime};
 
 // The most bytes that a book in a file may have.
 const MOST: usize = 524288;
 
 // The book that argument 3 names, in the front of its room.
-fn book_in(rt: &impl Runtime, room: &mut [u8]) -> Input {
-    let Input::Read(len) = word::read(rt, 3, room) else {
-        return Input::Failed;
-    };
+fn book_in(rt: &impl Runtime, room: &mut [u8]) -> Option<usize> {
+    let len = word::read(rt, 3, room)?;
     if MOST < len {
         arguments::complain(
             rt,
             "A book may have 524,288 bytes here, and this one has more.\n",
         );
-        return Input::Failed;
+        return None;
     }
-    Input::Read(len)
+    Some(len)
 }
 
 fn sheets(rt: &impl Runtime, room: &mut [u8]) {
-    let Input::Read(len) = book_in(rt, room) else {
+    let Some(len) = book_in(rt, room) else {
         return;
     };
     word::ended(rt, answers::say_sheets(rt, slices::part(room, 0, len)));
 }
 
 fn lookup(rt: &impl Runtime, room: &mut [u8], cell: u32) {
-    let Input::Read(len) = book_in(rt, room) else {
+    let Some(len) = book_in(rt, room) else {
         return;
     };
     word::ended(
@@ -55,7 +52,7 @@ fn lookup(rt: &impl Runtime, room: &mut [u8], cell: u32) {
 }
 
 fn back(rt: &impl Runtime, room: &mut [u8], place: usize) {
-    let Input::Read(len) = book_in(rt, room) else {
+    let Some(len) = book_in(rt, room) else {
         return;
     };
     answers::say_back(rt, reader::step_from(slices::part(room, 0, len), place));
@@ -76,7 +73,7 @@ fn lent(size: usize, most: usize) -> usize {
 // Adds the sheet to the book with room for so many bytes, and puts the new book in the file's
 // place; or says why not. The answer is whether the file was replaced.
 fn add_in<R: Runtime>(rt: &R, room: &mut [u8], file: R::File, s: &[u8], size: usize) -> bool {
-    let Input::Read(len) = book_in(rt, room) else {
+    let Some(len) = book_in(rt, room) else {
         return false;
     };
     let size = lent(size, room.len());
@@ -92,7 +89,7 @@ fn add_in<R: Runtime>(rt: &R, room: &mut [u8], file: R::File, s: &[u8], size: us
         );
         return false;
     }
-    if !files::replace(rt, file, slices::part(room, 0, new)) {
+    if files::replace(rt, file, slices::part(room, 0, new)).is_none() {
         return false;
     }
     say_added(rt, added);
@@ -102,7 +99,7 @@ fn add_in<R: Runtime>(rt: &R, room: &mut [u8], file: R::File, s: &[u8], size: us
 // A sheet has at most 396 bytes, so that 397 show one that is too long.
 fn add(rt: &impl Runtime, room: &mut [u8], size: usize) {
     let mut s = [0u8; 397];
-    let Input::Read(len) = word::read(rt, 4, &mut s) else {
+    let Some(len) = word::read(rt, 4, &mut s) else {
         return;
     };
     let Some(file) = files::hold(rt) else {
@@ -129,7 +126,7 @@ fn with_number(rt: &impl Runtime, wanted: Wanted, room: &mut [u8]) {
 fn main(rt: HostRuntime) {
     // Bytes for a book, and behind it for a sheet; a book that reaches beyond MOST shows in them.
     let mut space = [0u8; 524685];
-    if word::has_argument(&rt, 1) {
+    if word::is_there(rt.arg(1, &mut [])) {
         with_number(&rt, arguments::asked(&rt), &mut space);
     } else {
         records::play(&rt, &mut space);

@@ -6,8 +6,6 @@
 ghost use Rattle.std.specs.Prelude.{◌≡◌};
 ghost use Rattle.rounds.specs.Refused.{ends_in, is_refused};
 
-use word::Input;
-
 // Whether this is what `rounds` prints where the schedule is none, or is none from some line on.
 fn is_refused(printed: &[u8]) -> bool
     ensures { result ≡ is_refused printed.now }
@@ -36,7 +34,7 @@ fn ends_in(text: &[u8], end: &[u8]) -> bool
 fn main(rt: HostRuntime) {
     // One byte more than a schedule may have, so that one that is too long shows.
     let mut input = [0u8; 16385];
-    let Input::Read(len) = word::read(&rt, 2, &mut input) else {
+    let Some(len) = word::read(&rt, 2, &mut input) else {
         return;
     };
     let mut out = [0u8; 64064];
