@@ -67,9 +67,9 @@ pub fn read_all(from: &mut impl Read, buf: &mut [u8]) -> (usize, io::Result<()>)
     (len, Ok(()))
 }
 
-// Prints the answer on standard output, says that it is one, or that it is a refusal, and gives back
-// the digit that says it. Where it could not be printed whole, one line on standard error says why,
-// and nothing is said of an ending.
+// Prints the answer on standard output, says whether it is a refusal, and gives back the digit that
+// says so. Where it could not be printed whole, one line on standard error says why, and nothing is
+// said of an ending.
 pub fn answer(
     rt: &(impl Env + Files + Print + Eprint + Alloc),
     text: &[u8],
