@@ -4,13 +4,15 @@
 // the answer is where the text goes on; without that room nothing is laid, and the answer is `at`.
 #![tactic(auto)]
 
-ghost use Rattle.std.specs.Prelude.{◌≡◌, ◌+◌, ◌-◌, ◌≤◌};
+ghost use Rattle.std.specs.Prelude.{◌≡◌, ◌+◌, ◌≤◌};
 ghost use Rattle.printing.specs.StepAnswer.{said_step_answer};
 ghost use Rattle.printing.specs.Printing.{wrote, line_text, header_text};
 
 use desk::Answer;
+use line::Line;
 
 mod answers;
+mod line;
 
 // What a step comes to.
 #[derive(Clone, Copy)]
@@ -21,39 +23,31 @@ pub enum StepAnswer {
     BadLine,
 }
 
-// No line is longer.
-const LONGEST: usize = 64;
-
-// How many bytes a buffer of this length has from `at` on.
-fn room(len: usize, at: usize) -> usize
-    ensures { result ≡ len - at }
-{
-    if at < len { len - at } else { 0 }
-}
-
 // "Header: desks, cells, letter of the mode in force (never `-`)."
+#[tactic(auto, using(crate::proofs::Laws::digits_few), unfolding(crate::specs::Printing::header_text))]
 pub fn put_header(out: &mut [u8], at: usize, n: u32, m: u32, mode: u8) -> usize
     ensures result_after { record { bytes = out.new; end = result } ≡ wrote out.old at (header_text n m mode) }
     ensures upper_bound { result ≤ at + 64 }
 {
-    if room(out.len(), at) < LONGEST {
-        return at;
-    }
-    let at = answers::put_number(out, at, b"desks ", n);
-    let at = answers::put_number(out, at, b" cells ", m);
-    answers::put_mode(out, at, mode)
+    let mut line = Line::new();
+    line.number("desks ", n);
+    line.number(" cells ", m);
+    line.text(" mode ");
+    line.letter(mode);
+    line.text("\n");
+    line.lay(out, at)
 }
 
 // "Then step number and answer".
+#[tactic(auto, using(crate::proofs::Laws::digits_few), unfolding(crate::specs::Printing::line_text))]
 pub fn put_line(out: &mut [u8], at: usize, number: u32, answer: StepAnswer) -> usize
     ensures result_after { record { bytes = out.new; end = result } ≡ wrote out.old at (line_text number (said_step_answer answer)) }
     ensures upper_bound { result ≤ at + 64 }
 {
-    if room(out.len(), at) < LONGEST {
-        return at;
-    }
-    let at = answers::put_number(out, at, b"", number);
-    let at = answers::put_text(out, at, b" ");
-    let at = answers::put_step_answer(out, at, answer);
-    answers::put_text(out, at, b"\n")
+    let mut line = Line::new();
+    line.number("", number);
+    line.text(" ");
+    line.step_answer(answer);
+    line.text("\n");
+    line.lay(out, at)
 }
