@@ -1,3 +1,4 @@
 pub mod Laws
 pub mod Tests
 mod Signs
+pub mod LowFirst

@@ -94,8 +94,5 @@ pub fn without_sign(z: i32) -> u64
 pub fn left_by(n: u32, by: u8) -> u32
     ensures { result ≡ n % by }
 {
-    if by == 0 {
-        return n;
-    }
-    n % (by as u32)
+    n.checked_rem(u32::from(by)).unwrap_or(n)
 }
