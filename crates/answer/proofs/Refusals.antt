@@ -1,17 +1,17 @@
 -- Laws of `said` (specs/Refusals.antt), the same for every call.
 --   refusal_of, refusal_back       a refusal is found by its number
 --   said_apart                     two different answers never say the same, where two different values do not
---   ok_said, err_said              what an answer is that says so much
+--   when_went_on, when_refused     what a test of one rule says: that it does not apply, or that it does, and is the refusal
 -- Assumes nothing.
 use mathlib.Core.Path.{◌≡◌, refl, ap}
-use mathlib.Core.Bool.{cond}
+use mathlib.Core.Bool.{Bool, true, false, cond}
 use Prim.Native.Nat.{ℕ}
 use lib.Dec.{eqb}
 use Rattle.std.specs.Prelude.{Result, Ok, Err}
 use Rattle.answer.specs.declared.Refusal.{Refusal}
 use Rattle.answer.specs.declared.Refusal.TheVariants as refusal
 use Rattle.answer.specs.Answer.{Answer, refused, answered}
-use Rattle.answer.specs.Refusals.{number_of, said}
+use Rattle.answer.specs.Refusals.{number_of, said, refused_when}
 use Rattle.answer.proofs.Laws.{apart}
 
 abbrev pub refusal_of : ℕ → Refusal
@@ -59,3 +59,14 @@ module _ {A B : Type 0} (values : A → B) (value : B → A) (found : (a : A) �
 
   pub said_apart : (r q : Result A Refusal) → said values r ≡ said values q → r ≡ q
   said_apart r q = apart (said values) (again value) back
+
+-- ---- one rule, tested by `when`
+
+module _ (r : Refusal) where
+  pub when_went_on : (applies : Bool) → Ok (tt {0}) ≡ refused_when r applies → applies ≡ false
+  when_went_on true e = cc
+  when_went_on false e = refl
+
+  pub when_refused : (applies : Bool) (x : Refusal) → Err x ≡ refused_when r applies → (applies ≡ true) × (x ≡ r)
+  when_refused true x e = (refl, cc)
+  when_refused false x e = cc

@@ -19,7 +19,6 @@ mod newest;
 use content::Content;
 use examined::Examined;
 use layout::Numbers;
-use sheet::Reading;
 
 // What a step back gives: a sheet, by where it starts and ends in the book, with its trailer's
 // numbers; or none.
@@ -71,12 +70,12 @@ pub fn step_back(book: &[u8], place: usize) -> Back
     }
     let start = place - size;
     match sheet::read(&book[start..place]) {
-        Reading::Good(numbers) => Back::Sheet {
+        Ok(numbers) => Back::Sheet {
             start,
             end: place,
             numbers,
         },
-        Reading::Refused(_) => Back::None,
+        Err(_) => Back::None,
     }
 }
 
@@ -134,7 +133,7 @@ pub fn lookup(book: &[u8], cell: u32) -> Found
 pub fn add(room: &mut [u8], len: usize, s: &[u8]) -> Added
     ensures { Adds room.old len s.now result room.new }
 {
-    let Reading::Good(numbers) = sheet::read(s) else {
+    let Ok(numbers) = sheet::read(s) else {
         return Added::Refused(13);
     };
     if room.len() < len {

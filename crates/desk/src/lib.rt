@@ -15,7 +15,6 @@ mod steps;
 
 use content::Content;
 use pending::Sent;
-use sheet::Reading;
 use sound::Head;
 
 // "A record holds n, m, the desk's own number, mode .., turn number, shelf, pending entries, and the
@@ -186,11 +185,11 @@ impl Desk {
             };
         }
         match sheet::read(sheet) {
-            Reading::Refused(k) => Outcome {
-                answer: Answer::Refused(k),
+            Err(r) => Outcome {
+                answer: Answer::Refused(r.number()),
                 desk: self,
             },
-            Reading::Good(x) => {
+            Ok(x) => {
                 let free = tray::is_free(tray, x.sender);
                 let number = refusals::sheet_number(h, x, free);
                 steps::hold_if(tray, number == 0, x.sender, sheet);

@@ -7,7 +7,6 @@ use calendar::{Date, DateAnswer, DayAnswer};
 use content::{Content, Standing};
 use desk::{Answer, Desk, Outcome};
 use layout::{Entry, Numbers};
-use sheet::Reading;
 use writer::Written;
 
 // A write that fails is passed over, here and below.
@@ -180,7 +179,7 @@ fn write_into(rt: &impl Print, buf: &mut [u8], n: Numbers, e: Entry) {
 
 fn read_back(rt: &impl Print, s: &[u8]) {
     match sheet::read(s) {
-        Reading::Good(n) => {
+        Ok(n) => {
             say(rt, b"\n  reads back: desk ");
             say_number(rt, n.sender as u64);
             say(rt, b" of ");
@@ -196,7 +195,7 @@ fn read_back(rt: &impl Print, s: &[u8]) {
             }
             say(rt, b"\n");
         }
-        Reading::Refused(number) => say_refused(rt, number),
+        Err(r) => say_refused(rt, r.number()),
     }
 }
 

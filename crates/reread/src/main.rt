@@ -13,7 +13,6 @@ ghost use Rattle.std.specs.Prelude.{◌<◌, length};
 
 use content::Content;
 use layout::{Entry, Numbers};
-use sheet::Reading;
 use writer::Written;
 
 // Each `put` function lays text into a line from `at` on, and answers where the line goes on. Text
@@ -135,8 +134,8 @@ fn put_good(line: &mut [u8], s: &[u8], n: Numbers) -> usize {
 
 fn put_sheet(line: &mut [u8], s: &[u8]) -> usize {
     match sheet::read(s) {
-        Reading::Good(n) => put_good(line, s, n),
-        Reading::Refused(number) => put_both(line, 0, b"refused ", number as u64),
+        Ok(n) => put_good(line, s, n),
+        Err(r) => put_both(line, 0, b"refused ", r.number() as u64),
     }
 }
 

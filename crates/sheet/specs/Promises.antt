@@ -1,12 +1,13 @@
 -- What is promised of sheets beside the calls' contracts. proofs/Laws proves each.
 -- Assumes nothing.
-use Rattle.std.specs.Prelude.{◌≡◌, true, List, ℕ, ◌<◌, ◌≤◌, length, get_or}
+use Rattle.std.specs.Prelude.{◌≡◌, true, Result, List, ℕ, ◌<◌, ◌≤◌, length, get_or}
 use Rattle.std.specs.Int.{w32}
 use Rattle.std.proofs.Common.{to_z}
 use Rattle.answer.specs.Answer.{answered}
 use Rattle.content.specs.declared.Content.TheVariants.{Open, Day}
 use Rattle.layout.specs.declared.Entry.{Entry}
-use Rattle.sheet.specs.declared.Reading.{Reading}
+use Rattle.answer.specs.declared.Refusal.{Refusal}
+use Rattle.layout.specs.declared.Numbers.{Numbers}
 use Rattle.layout.specs.Layout.{content_in}
 use Rattle.sheet.specs.Good.{good}
 use Rattle.sheet.specs.Reading.{Sheet, reading_of, said_read, no_entry, entry_at}
@@ -37,4 +38,4 @@ GoodWithin = (s : List ℕ) → good s ≡ true → (12 ≤ length s) × (length
 
 -- two different answers never say the same of the same bytes
 abbrev pub ReadingsApart : Type 0
-ReadingsApart = (s : List ℕ) (a b : Reading) → said_read s a ≡ said_read s b → a ≡ b
+ReadingsApart = (s : List ℕ) (a b : Result Numbers Refusal) → said_read s a ≡ said_read s b → a ≡ b

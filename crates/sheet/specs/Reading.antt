@@ -1,12 +1,12 @@
 -- 01, "Numbers given back": "Reading a sheet: 13", "sheet not good". A good sheet gives its entries and its trailer's numbers.
 -- Assumes nothing.
-use Rattle.std.specs.Prelude.{ℕ, ◌+◌, ◌*◌, not, cond, List, [], ◌∷◌, leb, length, drop}
-use Rattle.answer.specs.Answer.{Answer, refused, answered, ◌if◌, answer}
+use Rattle.std.specs.Prelude.{ℕ, ◌+◌, ◌*◌, not, cond, Result, List, [], ◌∷◌, leb, length, drop}
+use Rattle.answer.specs.Answer.{Answer, ◌if◌, answer}
+use Rattle.answer.specs.declared.Refusal.{Refusal}
+use Rattle.answer.specs.Refusals.{said}
 use Rattle.layout.specs.declared.Entry.{Entry}
 use Rattle.layout.specs.declared.Numbers.{Numbers}
 use Rattle.layout.specs.declared.Trailer.{Trailer}
-use Rattle.sheet.specs.declared.Reading.{Reading}
-use Rattle.sheet.specs.declared.Reading.TheVariants as read
 use Rattle.layout.specs.Layout.{entry_of, entries_of, trailer_in, numbers_of}
 use Rattle.sheet.specs.Good.{good}
 
@@ -24,9 +24,8 @@ unfoldable pub reading_of : List ℕ → Answer Sheet
 reading_of s = answer (13 if not (good s) ∷ []) (sheet_in s (numbers_of (trailer_in s)))
 
 -- what the answer to reading the bytes s says: the entries stay in the bytes, and are read where they stand
-abbrev pub said_read : List ℕ → Reading → Answer Sheet
-said_read s (read.Good n) = answered (sheet_in s n)
-said_read s (read.Refused k) = refused k
+abbrev pub said_read : List ℕ → Result Numbers Refusal → Answer Sheet
+said_read s r = said (sheet_in s) r
 
 -- the trailer at the end of bytes; one of zeros, which is of no good sheet, where they are fewer than 12
 abbrev pub no_trailer : Trailer

@@ -11,32 +11,21 @@ ghost use Rattle.sheet.specs.Reading.{reading_of, said_read, trailer_at_end, ent
 mod bytes;
 mod good;
 
+use answer::Refusal;
 pub use good::{good_entries, good_entry, good_trailer};
 use layout::{Entry, Numbers, Trailer};
 
-#[derive(Clone, Copy)]
-pub enum Reading {
-    // The numbers of a good sheet; its entries are the first `entries` in the slice.
-    Good(Numbers),
-    Refused(u8),
-}
-
-// 01, "Reading a sheet: 13." Any slice, of any length.
-pub fn read(s: &[u8]) -> Reading
+// 01, "Reading a sheet: 13." Any slice, of any length: the numbers of a good sheet, whose entries
+// are the first `entries` in the slice.
+pub fn read(s: &[u8]) -> Result<Numbers, Refusal>
     ensures { said_read s.now result ≡ reading_of s.now }
 {
-    if s.len() < 12 {
-        return Reading::Refused(13);
-    }
+    Refusal::SheetNotGood.when(s.len() < 12)?;
     let back = s.len() - 12;
     let t = bytes::trailer_at(s, back);
-    if !good_trailer(t, back) {
-        return Reading::Refused(13);
-    }
-    if !good_entries(s, t.entries, t.cells) {
-        return Reading::Refused(13);
-    }
-    Reading::Good(t.numbers())
+    Refusal::SheetNotGood.when(!good_trailer(t, back))?;
+    Refusal::SheetNotGood.when(!good_entries(s, t.entries, t.cells))?;
+    Ok(t.numbers())
 }
 
 // The trailer at the end of bytes, for whoever goes back through sheets that stand end to end;

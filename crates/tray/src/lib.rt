@@ -10,7 +10,6 @@ ghost use Rattle.laying.specs.Laying.{laid_over};
 ghost use Rattle.tray.specs.Tray.{length_at, free, zeros, place_of, held_in, cleared_in};
 
 use layout::Numbers;
-use sheet::Reading;
 
 #[derive(Clone, Copy)]
 pub enum Place {
@@ -80,8 +79,8 @@ pub fn look(tray: &[u8], q: u8) -> Place
         return Place::Spoilt;
     }
     match sheet::read(&tray[at..past]) {
-        Reading::Good(numbers) => Place::Holds(numbers),
-        Reading::Refused(_) => Place::Spoilt,
+        Ok(numbers) => Place::Holds(numbers),
+        Err(_) => Place::Spoilt,
     }
 }
 

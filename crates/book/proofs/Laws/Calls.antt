@@ -16,8 +16,8 @@ use Rattle.layout.specs.declared.Numbers.{Numbers}
 use Rattle.laying.specs.Laying.{laid_over}
 use Rattle.laying.proofs.Laws.{laid}
 use Rattle.numbers.proofs.Tests.{and_left, tested}
-use Rattle.sheet.specs.declared.Reading.{Reading}
-use Rattle.sheet.specs.declared.Reading.TheVariants as reading
+use Rattle.std.specs.Prelude.{Result, Ok, Err}
+use Rattle.answer.specs.declared.Refusal.{Refusal}
 use Rattle.sheet.specs.Good.{good}
 use Rattle.sheet.specs.Reading.{reading_of, said_read}
 use Rattle.sheet.proofs.Laws.Reading.{said_good, said_bad}
@@ -181,12 +181,12 @@ module _ (room : List ℕ) (len : ℕ) (s : List ℕ) where
   add_refused : (k : ℕ) → added_of room len s ≡ refused k → room_of room len s ≡ room → Adds room len s (added.Refused k) room
   add_refused k a r = record { answers = sym a; room = sym r }
 
-  module _ (r : Reading) (reads : said_read s r ≡ reading_of s) where
-    pub add_not_good : (k : ℕ) → r ≡ reading.Refused k → Adds room len s (added.Refused 13) room
+  module _ (r : Result Numbers Refusal) (reads : said_read s r ≡ reading_of s) where
+    pub add_not_good : (x : Refusal) → r ≡ Err x → Adds room len s (added.Refused 13) room
     unfolding added_of room_of
-    add_not_good k e = let g = said_bad s r k e reads in add_refused 13 (rw g) (rw g)
+    add_not_good x e = let g = said_bad s r x e reads in add_refused 13 (rw g) (rw g)
 
-    module _ (n : Numbers) (e : r ≡ reading.Good n) where
+    module _ (n : Numbers) (e : r ≡ Ok n) where
       is_good : good s ≡ true
       is_good = (said_good s r n e reads).0
 

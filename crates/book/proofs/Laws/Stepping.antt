@@ -19,8 +19,8 @@ use Rattle.layout.specs.declared.Numbers.{Numbers}
 use Rattle.layout.specs.declared.Trailer.{Trailer}
 use Rattle.layout.specs.Layout.{entries_of, trailer_of, trailer_in, numbers_of}
 use Rattle.laying.proofs.Laws.{drop_take}
-use Rattle.sheet.specs.declared.Reading.{Reading}
-use Rattle.sheet.specs.declared.Reading.TheVariants as reading
+use Rattle.std.specs.Prelude.{Result, Ok, Err}
+use Rattle.answer.specs.declared.Refusal.{Refusal}
 use Rattle.sheet.specs.Good.{good}
 use Rattle.sheet.specs.Clauses.{good_trailer, good_entries, good_entries_in}
 use Rattle.sheet.specs.Reading.{reading_of, said_read, trailer_at_end}
@@ -109,17 +109,17 @@ module _ (b : List ℕ) (place : ℕ) where
         pub step_untested : (0 < place → good (last_sheet up_to) ≡ true) → (n : Numbers) → n ≡ numbers_of t → back.Sheet (place - (t.distance + 12)) place n ≡ step_back b place
         step_untested g n numbers = step_known (g (omega arith)) n numbers
 
-        module _ (r : Reading) (said : said_read (take (place - (place - (t.distance + 12))) (drop (place - (t.distance + 12)) b)) r ≡ reading_of (take (place - (place - (t.distance + 12))) (drop (place - (t.distance + 12)) b))) where
+        module _ (r : Result Numbers Refusal) (said : said_read (take (place - (place - (t.distance + 12))) (drop (place - (t.distance + 12)) b)) r ≡ reading_of (take (place - (place - (t.distance + 12))) (drop (place - (t.distance + 12)) b))) where
           is_said : said_read (last_sheet up_to) r ≡ reading_of (last_sheet up_to)
           is_said = subst (λ (s : List ℕ). said_read s r ≡ reading_of s) sheet_is said
 
-          pub step_good : (n : Numbers) → r ≡ reading.Good n → back.Sheet (place - (t.distance + 12)) place n ≡ step_back b place
+          pub step_good : (n : Numbers) → r ≡ Ok n → back.Sheet (place - (t.distance + 12)) place n ≡ step_back b place
           step_good n e =
               let found = said_good (last_sheet up_to) r n e is_said in
               step_known found.0 n (found.1 ∙ ap numbers_of its_trailer)
 
-          pub step_bad : (k : ℕ) → r ≡ reading.Refused k → back.None ≡ step_back b place
-          step_bad k e = step_none (said_bad (last_sheet up_to) r k e is_said)
+          pub step_bad : (x : Refusal) → r ≡ Err x → back.None ≡ step_back b place
+          step_bad x e = step_none (said_bad (last_sheet up_to) r x e is_said)
 
         -- the sheet is good exactly if its two parts are
         by_parts : good (last_sheet up_to) ≡ good_trailer t t.distance && good_entries t.cells (entries_of t.entries (last_sheet up_to))

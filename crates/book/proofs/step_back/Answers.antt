@@ -16,8 +16,8 @@ slice_bounds-trailer_of-end c = sym (length-take-le _ _ (search rules))
 pub returns-then-place-size : goal.returns-then-place-size
 returns-then-place-size c = search (steps, rules)
 
-pub returns-in-Good : goal.returns-in-Good
-returns-in-Good c = step_good _ _ (search rules) _ c.trailer_of-t.ensures (search rules) _ c.read.ensures _ c.in-Good.is
+pub returns-in-Ok : goal.returns-in-Ok
+returns-in-Ok c = step_good _ _ (search rules) _ c.trailer_of-t.ensures (search rules) _ c.read.ensures _ c.in-Ok.is
 
-pub returns-in-Refused : goal.returns-in-Refused
-returns-in-Refused c = step_bad _ _ (search rules) _ c.trailer_of-t.ensures (search rules) _ c.read.ensures _ c.in-Refused.is
+pub returns-in-Err : goal.returns-in-Err
+returns-in-Err c = step_bad _ _ (search rules) _ c.trailer_of-t.ensures (search rules) _ c.read.ensures _ c.in-Err.is

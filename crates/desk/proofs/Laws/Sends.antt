@@ -15,8 +15,9 @@ use Rattle.answer.specs.Parts.{Numbered}
 use Rattle.answer.proofs.Laws.{silent_if_0, refused_only_if, answered_only_if, changed_if, unchanged_if, number_of_first, number_of_silent, first_is_some, numbered_both, first_of_both, second_of_both}
 use Rattle.layout.specs.declared.Numbers.{Numbers}
 use Rattle.layout.specs.Layout.{trailer_in, numbers_of}
-use Rattle.sheet.specs.declared.Reading.{Reading}
-use Rattle.sheet.specs.declared.Reading.TheVariants as reading
+use Rattle.std.specs.Prelude.{Result, Ok, Err}
+use Rattle.answer.specs.declared.Refusal.{Refusal}
+use Rattle.answer.specs.Refusals.{number_of}
 use Rattle.sheet.specs.Good.{good}
 use Rattle.sheet.specs.Reading as sheets
 use Rattle.sheet.proofs.Laws.Reading.{bad_read, said_good, said_bad}
@@ -133,17 +134,17 @@ module _ (d : Desk) (tray s : List ℕ) where
     unfolding first_two of_sheet
     then_sheet z = second_of_both first_two (13 if not (good s) ∷ of_sheet) two_numbered (two_are ∙ z)
 
-    module _ (z : number ≡ 0) (r : Reading) (reads : sheets.said_read s r ≡ sheets.reading_of s) where
-      pub deliver_bad : (k : ℕ) → r ≡ reading.Refused k → outcome (record { answer = answers.Refused k; desk = d }) tray ≡ deliver_of d tray s
+    module _ (z : number ≡ 0) (r : Result Numbers Refusal) (reads : sheets.said_read s r ≡ sheets.reading_of s) where
+      pub deliver_bad : (y : Refusal) → r ≡ Err y → (k : ℕ) → k ≡ number_of y → outcome (record { answer = answers.Refused k; desk = d }) tray ≡ deliver_of d tray s
       unfolding first_number deliver_of of_sheet after
-      deliver_bad k e =
-          let g : good s ≡ false = said_bad s r k e reads in
-          let thirteen : k ≡ 13 = refused_same k 13 (sym (ap (sheets.said_read s) e) ∙ reads ∙ bad_read s g) in
+      deliver_bad y e k is_number =
+          let g : good s ≡ false = said_bad s r y e reads in
+          let thirteen : k ≡ 13 = is_number ∙ refused_same (number_of y) 13 (sym (ap (sheets.said_read s) e) ∙ reads ∙ bad_read s g) in
           let same : first_number (deliver_rules d tray s) ≡ k = then_sheet z ∙ rw g (sym thirteen) in
           let some : k ≡ 0 → ⊥ = λ zero. omega (arith, thirteen, zero) in
           call_refused (deliver_rules d tray s) d tray held d after k same some
 
-      module _ (x : Numbers) (e : r ≡ reading.Good x) {f : Bool} (fr : f ≡ free tray x.sender) {k : ℕ} (m : k ≡ first_number (sheet_tests d.head x f)) where
+      module _ (x : Numbers) (e : r ≡ Ok x) {f : Bool} (fr : f ≡ free tray x.sender) {k : ℕ} (m : k ≡ first_number (sheet_tests d.head x f)) where
         is_good : (good s ≡ true) × (x ≡ numbers_of (trailer_in s))
         is_good = said_good s r x e reads
 

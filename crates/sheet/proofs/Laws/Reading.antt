@@ -13,18 +13,22 @@ use Prim.Native.Nat.{ℕ, zero, suc, ◌+◌, ◌*◌, ◌-◌, ◌<◌, ◌≤�
 use native.Mathlib.Omega.{arith}
 use native.Mathlib.Nat.{not-suc-le-zero, le_of_suc-le-suc}
 use lib.ListN.{length, get_or}
-use borrow.Author.Tests.{le-leb, lt-leb, ltb-true, not-true, not-false}
+use lib.Dec.{ltb}
+use borrow.Author.Tests.{le-leb, lt-leb, ltb-true, ltb-false, not-true, not-false}
 use Rattle.answer.specs.Answer.{refused, answered, ◌if◌}
-use Rattle.answer.proofs.Laws.{answered_only_if, again, apart}
+use Rattle.answer.proofs.Laws.{answered_only_if}
 use Rattle.layout.specs.declared.Entry.{Entry}
 use Rattle.layout.specs.declared.Numbers.{Numbers}
 use Rattle.layout.specs.declared.Trailer.{Trailer}
-use Rattle.sheet.specs.declared.Reading.{Reading}
-use Rattle.sheet.specs.declared.Reading.TheVariants as reading
+use Rattle.answer.specs.declared.Refusal.{Refusal}
+use Rattle.answer.specs.declared.Refusal.TheVariants as refusal
+use Rattle.answer.specs.Refusals.{refused_when}
+use Rattle.answer.proofs.Refusals.{said_apart, when_went_on, when_refused}
+use Rattle.std.specs.Prelude.{Result, Ok, Err}
 use Rattle.layout.specs.Layout.{entries_of, trailer_in, numbers_of}
 use Rattle.sheet.specs.Good.{every, next_above, rising, below, kind_and_day, good}
 use Rattle.sheet.specs.Clauses.{good_trailer, good_entries, good_entries_in}
-use Rattle.sheet.specs.Reading.{Sheet, sheet_in, reading_of, said_read, no_trailer, trailer_at_end, no_entry, entry_at}
+use Rattle.sheet.specs.Reading.{sheet_in, reading_of, said_read, no_trailer, trailer_at_end, no_entry, entry_at}
 use Rattle.sheet.specs.Promises.{GoodEntry, EntriesStand, EntriesInPlace, ReadingsApart}
 use Rattle.numbers.proofs.Tests.{tested}
 use Rattle.layout.proofs.Laws.{entries_count, entry_of_entries}
@@ -43,34 +47,56 @@ module _ (s : List ℕ) where
 
 -- ---- as the code goes
 
-module _ (s : List ℕ) where
-  pub read_short : length s < 12 → refused 13 ≡ reading_of s
-  read_short h = sym (bad_read s (too_short_is_bad s h))
+-- what `read` knows of a test of its own: that the sheet may still be good, or that it is not
+abbrev went_on : Bool → Type 0
+went_on applies = Ok (tt {0}) ≡ refused_when refusal.SheetNotGood applies
 
-  module _ (t : Trailer) (is : t ≡ trailer_in s) (long : 12 ≤ length s) where
+abbrev stopped : Bool → Refusal → Type 0
+stopped applies x = Err x ≡ refused_when refusal.SheetNotGood applies
+
+module _ (s : List ℕ) where
+  -- a test that applies
+  refuses : (applies : Bool) → (applies ≡ true → good s ≡ false) → (x : Refusal) → stopped applies x → (r : Result Numbers Refusal) → r ≡ Err x → said_read s r ≡ reading_of s
+  refuses applies bad x test r is =
+      let found = when_refused refusal.SheetNotGood applies x test in
+      rw (is, found.1) (sym (bad_read s (bad found.0)))
+
+  pub read_short : (x : Refusal) → stopped (ltb (length s) 12) x → (r : Result Numbers Refusal) → r ≡ Err x → said_read s r ≡ reading_of s
+  read_short x test r is = refuses (ltb (length s) 12) (λ short. too_short_is_bad s (ltb-true (length s) 12 short)) x test r is
+
+  module _ (on : went_on (ltb (length s) 12)) (t : Trailer) (is : t ≡ trailer_in s) where
+    long : 12 ≤ length s
+    long = ltb-false (length s) 12 (when_went_on refusal.SheetNotGood (ltb (length s) 12) on)
+
     good_by : good s ≡ good_trailer t (length s - 12) && good_entries t.cells (entries_of t.entries s)
     good_by = good_is s long ∙ ap (λ (x : Trailer). good_trailer x (length s - 12) && good_entries x.cells (entries_of x.entries s)) (sym is)
 
-    pub read_bad_trailer : (g : Bool) → g ≡ good_trailer t (length s - 12) → not g ≡ true → refused 13 ≡ reading_of s
-    read_bad_trailer g test off = sym (bad_read s (good_by ∙ rw (← test, not-true g off)))
+    module _ (g : Bool) (test : g ≡ good_trailer t (length s - 12)) where
+      pub read_bad_trailer : (x : Refusal) → stopped (not g) x → (r : Result Numbers Refusal) → r ≡ Err x → said_read s r ≡ reading_of s
+      read_bad_trailer x off r e = refuses (not g) (λ bad. good_by ∙ rw (← test, not-true g bad)) x off r e
 
-    module _ (g : Bool) (test : g ≡ good_trailer t (length s - 12)) (on : not g ≡ false) where
-      read_room : 6 * t.entries ≤ length s
-      read_room = let f = fair_trailer t (length s - 12) (sym test ∙ not-false g on) in omega arith
+      module _ (fair : went_on (not g)) where
+        on_trailer : g ≡ true
+        on_trailer = not-false g (when_went_on refusal.SheetNotGood (not g) fair)
 
-      by_entries : good s ≡ good_entries t.cells (entries_of t.entries s)
-      by_entries = good_by ∙ rw (← test, not-false g on)
+        read_room : 6 * t.entries ≤ length s
+        read_room = let f = fair_trailer t (length s - 12) (sym test ∙ on_trailer) in omega (arith, long)
 
-      -- the entries have room before the trailer
-      in_bytes : good_entries_in s t.entries t.cells ≡ good_entries t.cells (entries_of t.entries s)
-      in_bytes = rw (le-leb (6 * t.entries) (length s) read_room)
+        by_entries : good s ≡ good_entries t.cells (entries_of t.entries s)
+        by_entries = good_by ∙ rw (← test, on_trailer)
 
-      pub read_bad_entries : (b : Bool) → b ≡ good_entries_in s t.entries t.cells → not b ≡ true → refused 13 ≡ reading_of s
-      read_bad_entries b tests off = sym (bad_read s (by_entries ∙ sym (tests ∙ in_bytes) ∙ not-true b off))
+        module _ (b : Bool) (tests : b ≡ good_entries_in s t.entries t.cells) where
+          -- the entries have room before the trailer
+          in_bytes : good s ≡ b
+          in_bytes = by_entries ∙ sym (tests ∙ rw (le-leb (6 * t.entries) (length s) read_room))
 
-      pub read_good : (b : Bool) → b ≡ good_entries_in s t.entries t.cells → not b ≡ false → (n : Numbers) → n ≡ numbers_of t → answered (sheet_in s n) ≡ reading_of s
-      read_good b tests off n numbers =
-          ap (λ (x : Numbers). answered (sheet_in s x)) (numbers ∙ ap numbers_of is) ∙ sym (good_read s (by_entries ∙ sym (tests ∙ in_bytes) ∙ not-false b off))
+          pub read_bad_entries : (x : Refusal) → stopped (not b) x → (r : Result Numbers Refusal) → r ≡ Err x → said_read s r ≡ reading_of s
+          read_bad_entries x off r e = refuses (not b) (λ bad. in_bytes ∙ not-true b bad) x off r e
+
+          pub read_good : went_on (not b) → (n : Numbers) → n ≡ numbers_of t → answered (sheet_in s n) ≡ reading_of s
+          read_good all n numbers =
+              ap (λ (x : Numbers). answered (sheet_in s x)) (numbers ∙ ap numbers_of is)
+              ∙ sym (good_read s (in_bytes ∙ not-false b (when_went_on refusal.SheetNotGood (not b) all)))
 
 pub ruleset readings = (read_short, read_bad_trailer, read_bad_entries, read_good)
 
@@ -89,31 +115,23 @@ pub ruleset trailers = (trailer_none, trailer_there)
 
 -- ---- the answer
 
-numbered : Sheet → Reading
-numbered sheet = reading.Good sheet.numbers
-
-found : (s : List ℕ) (a : Reading) → again reading.Refused numbered (said_read s a) ≡ a
-unfolding numbered
-found s (reading.Good n) = refl
-found s (reading.Refused k) = refl
-
 pub said_read_tells_apart : ReadingsApart
-said_read_tells_apart s a b = apart (said_read s) (again reading.Refused numbered) (found s)
+said_read_tells_apart s a b = said_apart (sheet_in s) (λ sheet. sheet.numbers) (λ n. refl) a b
 
 -- ---- what a reading says of `good`
 
-module _ (s : List ℕ) (r : Reading) where
-  pub said_good : (n : Numbers) → r ≡ reading.Good n → said_read s r ≡ reading_of s → (good s ≡ true) × (n ≡ numbers_of (trailer_in s))
+module _ (s : List ℕ) (r : Result Numbers Refusal) where
+  pub said_good : (n : Numbers) → r ≡ Ok n → said_read s r ≡ reading_of s → (good s ≡ true) × (n ≡ numbers_of (trailer_in s))
   said_good n is said_answer = by_test (good s) refl
     where
       by_test : (g : Bool) → good s ≡ g → (good s ≡ true) × (n ≡ numbers_of (trailer_in s))
       by_test true g =
-          let same : r ≡ reading.Good (numbers_of (trailer_in s)) = said_read_tells_apart s r (reading.Good (numbers_of (trailer_in s))) (said_answer ∙ good_read s g) in
+          let same : r ≡ Ok (numbers_of (trailer_in s)) = said_read_tells_apart s r (Ok (numbers_of (trailer_in s))) (said_answer ∙ good_read s g) in
           (g, cc)
       by_test false g = let e = bad_read s g in let z : ◌≡◌ {A = ℕ} 0 1 = cc in absurd (omega arith)
 
-  pub said_bad : (k : ℕ) → r ≡ reading.Refused k → said_read s r ≡ reading_of s → good s ≡ false
-  said_bad k is said_answer = by_test (good s) refl
+  pub said_bad : (x : Refusal) → r ≡ Err x → said_read s r ≡ reading_of s → good s ≡ false
+  said_bad x is said_answer = by_test (good s) refl
     where
       by_test : (g : Bool) → good s ≡ g → good s ≡ false
       by_test true g = let e = good_read s g in let z : ◌≡◌ {A = ℕ} 0 1 = cc in absurd (omega arith)

@@ -15,8 +15,8 @@ use borrow.Author.Tests.{le-leb, lt-leb, eq-eqb, ne_eqb, not-true, not-false}
 use Rattle.layout.specs.declared.Numbers.{Numbers}
 use Rattle.numbers.specs.Numbers.{at1}
 use Rattle.layout.specs.Layout.{trailer_in, numbers_of}
-use Rattle.sheet.specs.declared.Reading.{Reading}
-use Rattle.sheet.specs.declared.Reading.TheVariants as reading
+use Rattle.std.specs.Prelude.{Result, Ok, Err}
+use Rattle.answer.specs.declared.Refusal.{Refusal}
 use Rattle.sheet.specs.Good.{good}
 use Rattle.sheet.specs.Reading.{reading_of, said_read}
 use Rattle.sheet.proofs.Laws.Reading.{said_good, said_bad}
@@ -93,7 +93,7 @@ module _ (tray : List ℕ) (q len : ℕ) (is : len ≡ length_at tray q) where
               by_good = by_sheet ∙ rw (not-false z on) (and-true (good (sheet_at tray q)));
             }
 
-module _ (tray : List ℕ) (q len : ℕ) (so : BySheet tray q len) (r : Reading) (said_answer : said_read (take (398 * q + 2 + len - (398 * q + 2)) (drop (398 * q + 2) tray)) r ≡ reading_of (take (398 * q + 2 + len - (398 * q + 2)) (drop (398 * q + 2) tray))) where
+module _ (tray : List ℕ) (q len : ℕ) (so : BySheet tray q len) (r : Result Numbers Refusal) (said_answer : said_read (take (398 * q + 2 + len - (398 * q + 2)) (drop (398 * q + 2) tray)) r ≡ reading_of (take (398 * q + 2 + len - (398 * q + 2)) (drop (398 * q + 2) tray))) where
   sheet_is : take (398 * q + 2 + len - (398 * q + 2)) (drop (398 * q + 2) tray) ≡ sheet_at tray q
   sheet_is =
       let many : 398 * q + 2 + len - (398 * q + 2) ≡ len = omega arith in
@@ -102,12 +102,12 @@ module _ (tray : List ℕ) (q len : ℕ) (so : BySheet tray q len) (r : Reading)
   is_said : said_read (sheet_at tray q) r ≡ reading_of (sheet_at tray q)
   is_said = subst (λ (s : List ℕ). said_read s r ≡ reading_of s) sheet_is said_answer
 
-  pub look_holds : (n : Numbers) → r ≡ reading.Good n → place.Holds n ≡ place_of tray q
+  pub look_holds : (n : Numbers) → r ≡ Ok n → place.Holds n ≡ place_of tray q
   look_holds n e =
       let found = said_good (sheet_at tray q) r n e is_said in
       ap place.Holds found.1 ∙ sym (place_holds tray q so.not_free (so.by_good ∙ found.0))
 
-  pub look_refused : (k : ℕ) → r ≡ reading.Refused k → place.Spoilt ≡ place_of tray q
-  look_refused k e = sym (place_spoilt tray q so.not_free (so.by_good ∙ said_bad (sheet_at tray q) r k e is_said))
+  pub look_refused : (x : Refusal) → r ≡ Err x → place.Spoilt ≡ place_of tray q
+  look_refused x e = sym (place_spoilt tray q so.not_free (so.by_good ∙ said_bad (sheet_at tray q) r x e is_said))
 
 pub ruleset looks = (look_free, look_short, look_long, look_not_zeros, look_on)

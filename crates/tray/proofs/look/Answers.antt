@@ -16,12 +16,12 @@ returns-then-len-gt396 c = search (looks, rules)
 pub returns-then-not-all_zeros : goal.returns-then-not-all_zeros
 returns-then-not-all_zeros c = search (looks, rules)
 
-pub returns-in-Good : goal.returns-in-Good
-returns-in-Good c =
+pub returns-in-Ok : goal.returns-in-Ok
+returns-in-Ok c =
     let by_sheet : BySheet c.args.tray.now c.args.q c.length_at-len.result = search (looks, rules) in
-    look_holds _ _ _ by_sheet _ c.read.ensures _ c.in-Good.is
+    look_holds _ _ _ by_sheet _ c.read.ensures _ c.in-Ok.is
 
-pub returns-in-Refused : goal.returns-in-Refused
-returns-in-Refused c =
+pub returns-in-Err : goal.returns-in-Err
+returns-in-Err c =
     let by_sheet : BySheet c.args.tray.now c.args.q c.length_at-len.result = search (looks, rules) in
-    look_refused _ _ _ by_sheet _ c.read.ensures _ c.in-Refused.is
+    look_refused _ _ _ by_sheet _ c.read.ensures _ c.in-Err.is

@@ -7,10 +7,10 @@ use Rattle.desk.proofs.Desk.deliver.Goals as goal
 pub returns-then-number-ne0 : goal.returns-then-number-ne0
 returns-then-number-ne0 c = search (deliveries, rules)
 
-pub returns-in-Refused : goal.returns-in-Refused
-returns-in-Refused c = search deliver_bad
+pub returns-in-Err : goal.returns-in-Err
+returns-in-Err c = search deliver_bad
 
-pub returns-in-Good : goal.returns-in-Good
-returns-in-Good c =
-    deliver_so _ _ _ c.tray_number-number.ensures c.is_sound-ok.ensures c.if-number-ne0.false _ c.read.ensures _ c.in-Good.is
+pub returns-in-Ok : goal.returns-in-Ok
+returns-in-Ok c =
+    deliver_so _ _ _ c.tray_number-number.ensures c.is_sound-ok.ensures c.if-number-ne0.false _ c.read.ensures _ c.in-Ok.is
     c.is_free-free.ensures c.sheet_number-number.ensures c.given_if.ensures c.hold_if.ensures
