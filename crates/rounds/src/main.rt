@@ -4,31 +4,15 @@
 #![tactic(auto)]
 
 ghost use Rattle.std.specs.Prelude.{◌≡◌};
-ghost use Rattle.rounds.specs.Refused.{ends_in, is_refused};
+ghost use Rattle.rounds.specs.Refused.{is_refused};
 
 // Whether this is what `rounds` prints where the schedule is none, or is none from some line on.
 fn is_refused(printed: &[u8]) -> bool
     ensures { result ≡ is_refused printed.now }
 {
-    ends_in(printed, b"too long\n")
-        | ends_in(printed, b"bad start\n")
-        | ends_in(printed, b" bad line\n")
-}
-
-fn ends_in(text: &[u8], end: &[u8]) -> bool
-    ensures { result ≡ ends_in end.now text.now }
-{
-    if text.len() < end.len() {
-        return false;
-    }
-    let from = text.len() - end.len();
-    let mut same = true;
-    let mut i = 0;
-    while i < end.len() {
-        same = same & (text[from + i] == end[i]);
-        i += 1;
-    }
-    same
+    printed.ends_with(b"too long\n")
+        || printed.ends_with(b"bad start\n")
+        || printed.ends_with(b" bad line\n")
 }
 
 fn main(rt: HostRuntime) {
