@@ -4,12 +4,12 @@
 -- Assumes nothing.
 use Rattle.std.specs.Prelude.{ℕ, ◌+◌, ◌-◌, ◌%◌, Bool, not, cond, ◌&&◌, List, [], ◌∷◌, eqb, leb, ltb, get_or, ℤ, pos, negsuc, nat_abs, ◌+ℤ◌, ◌-ℤ◌}
 use Rattle.std.specs.Int.Signed.{le_z}
-use Rattle.answer.specs.Answer.{Answer, refused, answered, ◌if◌, answer}
+use Rattle.std.specs.Prelude.{Result, length, replicate, ◌++◌, codes}
+use Rattle.std.specs.Fmt.{decimal}
+use Rattle.answer.specs.Answer.{Answer, ◌if◌, answer}
+use Rattle.answer.specs.declared.Refusal.{Refusal}
+use Rattle.answer.specs.Refusals.{said}
 use Rattle.calendar.specs.declared.Date.{Date}
-use Rattle.calendar.specs.declared.DayAnswer.{DayAnswer}
-use Rattle.calendar.specs.declared.DayAnswer.TheVariants as day
-use Rattle.calendar.specs.declared.DateAnswer.{DateAnswer}
-use Rattle.calendar.specs.declared.DateAnswer.TheVariants as date
 use Rattle.calendar.specs.Spans.{before, span_of}
 
 -- ---- the years
@@ -107,12 +107,19 @@ next_date t =
 abbrev pub last_date : Date
 last_date = record { year = 2199; month = 12; day = 31 }
 
--- ---- the answers: what each case of the code's enums says
+-- ---- the answers: what each says
 
-abbrev pub said_day : DayAnswer → Answer ℤ
-said_day (day.Day z) = answered z
-said_day (day.Refused k) = refused k
+abbrev pub said_day : Result ℤ Refusal → Answer ℤ
+said_day = said (λ z. z)
 
-abbrev pub said_date : DateAnswer → Answer Date
-said_date (date.Date t) = answered t
-said_date (date.Refused k) = refused k
+abbrev pub said_date : Result Date Refusal → Answer Date
+said_date = said (λ t. t)
+
+-- ---- a date as it is printed, as docs/CRATES.md has it: `1970-01-01`
+
+-- a number with zeros before it, up to so many digits
+abbrev pub wide : ℕ → ℕ → List ℕ
+wide digits n = replicate (digits - length (decimal n)) 48 ++ decimal n
+
+abbrev pub shown : Date → List ℕ
+shown t = wide 4 t.year ++ (codes "-" ++ (wide 2 t.month ++ (codes "-" ++ wide 2 t.day)))

@@ -1,12 +1,11 @@
 -- What is promised of the calendar's definitions. 01, "Calendar": "Date to day number and back undo each other on this range."
 -- And that the numbers are those of days that follow one another: "Day 0 is 1 January 1970 and day -1 the day before."
 -- proofs/Laws/Calendar.antt proves each. Assumes nothing.
-use Rattle.std.specs.Prelude.{◌≡◌, true, ℤ, pos, negsuc}
+use Rattle.std.specs.Prelude.{◌≡◌, true, ℤ, pos, negsuc, Result}
 use Rattle.std.proofs.Math.IntN.{suc_ℤ}
 use Rattle.answer.specs.Answer.{refused, answered}
+use Rattle.answer.specs.declared.Refusal.{Refusal}
 use Rattle.calendar.specs.declared.Date.{Date}
-use Rattle.calendar.specs.declared.DayAnswer.{DayAnswer}
-use Rattle.calendar.specs.declared.DateAnswer.{DateAnswer}
 use Rattle.calendar.specs.Calendar.{is_date, is_day, day_zero, number_of, day_number_of, date_of, next_date, last_date, said_day, said_date}
 
 -- date to day number and back: a date has a day's number, and that day's date is the date
@@ -54,7 +53,7 @@ pub record Ends : Type 0 where
 
 -- two different answers never say the same
 abbrev pub DaysApart : Type 0
-DaysApart = (a b : DayAnswer) → said_day a ≡ said_day b → a ≡ b
+DaysApart = (a b : Result ℤ Refusal) → said_day a ≡ said_day b → a ≡ b
 
 abbrev pub DatesApart : Type 0
-DatesApart = (a b : DateAnswer) → said_date a ≡ said_date b → a ≡ b
+DatesApart = (a b : Result Date Refusal) → said_date a ≡ said_date b → a ≡ b

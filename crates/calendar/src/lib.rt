@@ -5,85 +5,69 @@
 // through years or days: a year's first day is a formula, a month's stands in a table.
 #![tactic(auto)]
 
-ghost use Rattle.std.specs.Prelude.{◌≡◌, true, ◌<◌};
-ghost use Rattle.calendar.specs.Calendar.{is_date, is_day, days_to, date_at, day_number_of, date_of, said_day, said_date};
+ghost use Rattle.std.specs.Prelude.{◌≡◌, true, ◌<◌, Some};
+ghost use Rattle.calendar.specs.Calendar.{is_date, is_day, days_to, date_at, day_number_of, date_of, said_day, said_date, shown};
 ghost use Rattle.calendar.specs.Parts.{days_in_all};
 
+use answer::Refusal;
 use month::{days_before_month, length_of, month_of};
+use std::fmt;
 use year::{days_before_year, year_of};
 
 mod month;
 mod year;
 
-// A date: the month and the day count from 1.
-#[derive(Clone, Copy)]
+// A date: the month and the day count from 1. A date is before another if its fields come first, in
+// their order.
+#[derive(Clone, Copy, Debug, PartialEq, Eq, PartialOrd, Ord)]
 pub struct Date {
     pub year: u16,
     pub month: u8,
     pub day: u8,
 }
 
-// What `number` answers: the day's number, or 22.
-#[derive(Clone, Copy)]
-pub enum DayAnswer {
-    Day(i32),
-    Refused(u8),
-}
-
-// What `of_day` answers: the day's date, or 22.
-#[derive(Clone, Copy)]
-pub enum DateAnswer {
-    Date(Date),
-    Refused(u8),
-}
-
 impl Date {
     // The number of the date's day; 22 where it is no date of the calendar.
-    pub fn number(self) -> DayAnswer
+    #[tactic(auto, using(crate::proofs::Computed::numbers_computed), unfolding(crate::specs::Calendar::day_number_of))]
+    pub fn number(self) -> Result<i32, Refusal>
         ensures { said_day result ≡ day_number_of self }
     {
-        if self.is_date() {
-            return DayAnswer::Day((self.days_to() as i32) - 25202);
-        }
-        DayAnswer::Refused(22)
+        Refusal::OutsideCalendar.when(!self.is_date())?;
+        Ok(self.days_to() as i32 - 25202)
     }
 
     // The date of a day's number; 22 where the day is outside the calendar.
-    pub fn of_day(day: i32) -> DateAnswer
+    #[tactic(auto, using(crate::proofs::Computed::places_computed), unfolding(crate::specs::Calendar::date_of))]
+    pub fn of_day(day: i32) -> Result<Date, Refusal>
         ensures { said_date result ≡ date_of day }
     {
-        if is_day(day) {
-            return DateAnswer::Date(Date::at((day + 25202) as u32));
-        }
-        DateAnswer::Refused(22)
+        Refusal::OutsideCalendar.when(!is_day(day))?;
+        Ok(Date::at((day + 25202) as u32))
     }
 
     // Whether the year, the month and the day are the calendar's.
+    #[tactic(auto, unfolding(crate::specs::Calendar::is_date))]
     fn is_date(self) -> bool
         ensures { result ≡ is_date self }
     {
-        let year = self.year;
-        let month = self.month;
-        let day = self.day;
-        if (1901 <= year) & (year <= 2199) & (1 <= month) & (month <= 12) {
-            return (1 <= day) & (day <= length_of(year, month - 1));
-        }
-        false
+        (1901..=2199).contains(&self.year)
+            && (1..=12).contains(&self.month)
+            && (1..=length_of(self.year, self.month - 1)).contains(&self.day)
     }
 
     // The days from 1 January 1901 to the date.
+    #[tactic(auto, using(crate::proofs::Laws::Date::days_to_small), unfolding(crate::specs::Calendar::is_date, crate::specs::Calendar::days_to))]
     fn days_to(self) -> u32
         requires { is_date self ≡ true }
         ensures { result ≡ days_to self }
     {
-        let year = self.year;
-        let month = self.month;
-        let day = self.day;
-        let months = days_before_month(year, month - 1);
-        days_before_year(year - 1901) + (months as u32) + ((day - 1) as u32)
+        days_before_year(self.year - 1901)
+            + days_before_month(self.year, self.month - 1) as u32
+            + (self.day - 1) as u32
     }
 
     // The date i days after 1 January 1901.
+    #[tactic(auto, using(crate::proofs::Laws::Date::day_at), unfolding(crate::specs::Calendar::date_at))]
     fn at(i: u32) -> Date
         requires { i < days_in_all }
         ensures { result ≡ date_at i }
@@ -101,9 +85,19 @@ impl Date {
     }
 }
 
+// "1970-01-01".
+impl fmt::Display for Date {
+    ghost output = { λ t. Some (shown t) };
+
+    fn fmt<W: fmt::Write>(&self, f: &mut fmt::Formatter<W>) -> fmt::Result {
+        write!(f, "{:04}-{:02}-{:02}", self.year, self.month, self.day)
+    }
+}
+
 // 01, "Calendar": "days -25,202 to 84,006".
+#[tactic(auto, unfolding(crate::specs::Calendar::is_day))]
 fn is_day(day: i32) -> bool
     ensures { result ≡ is_day day }
 {
-    (-25202 <= day) & (day <= 84006)
+    (-25202..=84006).contains(&day)
 }

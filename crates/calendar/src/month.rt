@@ -17,33 +17,27 @@ pub(crate) fn length_of(year: u16, m: u8) -> u8
     requires { m < 12 }
     ensures { result ≡ month_length year m }
 {
-    let days = LENGTHS[m as usize];
-    if is_leap(year) & (m == 1) {
-        return days + 1;
-    }
-    days
+    LENGTHS[m as usize] + u8::from(is_leap(year) & (m == 1))
 }
 
 pub(crate) fn days_before_month(year: u16, m: u8) -> u16
     requires { m ≤ 12 }
     ensures { result ≡ before (month_length year) m }
 {
-    let days = BEFORE[m as usize];
-    if is_leap(year) & (2 <= m) {
-        return days + 1;
-    }
-    days
+    BEFORE[m as usize] + u16::from(is_leap(year) & (2 <= m))
 }
 
 // The month of day j of the year. Months of 32 days each would begin no earlier than the true ones,
 // and at most 32 days later: so it is month j / 32 or the next.
+#[tactic(auto, using(crate::proofs::Laws::Month::month_guessed, crate::proofs::Laws::Month::month_after_guess))]
 pub(crate) fn month_of(year: u16, j: u16) -> u8
     requires { j < before (month_length year) 12 }
     ensures { result ≡ span_of (month_length year) 11 j }
 {
     let guess = (j / 32) as u8;
     if j < days_before_month(year, guess + 1) {
-        return guess;
+        guess
+    } else {
+        guess + 1
     }
-    guess + 1
 }

@@ -13,6 +13,7 @@ pub(crate) fn is_leap(year: u16) -> bool
 }
 
 // The days before year k. Four years have 1,461 days, the leap year being the last of the four.
+#[tactic(auto, using(crate::proofs::Laws::Year::year_begins))]
 pub(crate) fn days_before_year(k: u16) -> u32
     ensures { result ≡ before year_length k }
 {
@@ -20,6 +21,7 @@ pub(crate) fn days_before_year(k: u16) -> u32
 }
 
 // The year of day i: the last that begins no later.
+#[tactic(auto, using(crate::proofs::Laws::Year::year_found))]
 pub(crate) fn year_of(i: u32) -> u16
     requires { i < days_in_all }
     ensures { result ≡ span_of year_length 298 i }

@@ -6,6 +6,7 @@
 --   year_falls .. days_back              the three numbers of day i
 --   days_to_small, date_of_days_to, is_date_at, days_to_date_at     the same of a date and of a day: each comes back from the other
 --   next_date_lem                            the next date lies one day on
+--   day_at                                   those of them that `Date::at` needs
 -- Assumes nothing.
 use mathlib.Core.Path.{◌≡◌, refl, ap, subst, ◌∙◌}
 use mathlib.Core.Bool.{Bool, true, false, cond, ◌&&◌}
@@ -223,3 +224,6 @@ next_date_lem t e =
     let d = t.day - 1 in
     subst (λ (u : Date). suc (days_to u) < days_in_all → Lies (next_date u) (suc (days_to u))) (is_three t e)
     (rw (days_to_lem k m d) (next_of_three k m d (three_of t e)))
+
+-- what `Date::at` needs of day i
+pub ruleset day_at = (year_falls, in_year, month_falls, placed, year_is_short, month_is_short, span_within)

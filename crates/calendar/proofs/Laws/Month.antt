@@ -1,6 +1,7 @@
 -- Laws of a year's months, leap years and others alike (`length_in`, specs/Calendar.antt): one test of every month over both tables of the
 -- code, which antt computes, and what follows from it at each.
 --   month                                of month m: its length and the days before it by the tables, and bounds on both
+--   counted                              a test as a number, as the code adds it
 --   month_guessed, month_after_guess     so the month of day j is j / 32, or the next if that one begins by then
 -- Assumes nothing.
 use mathlib.Core.Path.{◌≡◌, refl, subst}
@@ -13,6 +14,7 @@ use native.Mathlib.Numerals.{add-one}
 use native.Mathlib.Omega.{arith}
 use lib.Dec.{eqb, leb}
 use lib.ListN.{get_or}
+use mir.Val.{bool_byte}
 use Rattle.numbers.proofs.Tests.{and_split, tested}
 use Rattle.calendar.specs.Spans.{before, span_of}
 use Rattle.calendar.specs.Calendar.{length_in}
@@ -69,6 +71,10 @@ pub record Month (l : Bool) (m : ℕ) : Type 0 where
 pub month : (l : Bool) (m : ℕ) → m ≤ 12 → Month l m
 unfolding right
 month l m h = search (at (right l) 13 (all_right l) m (omega arith), tested) depth 8
+
+pub counted : (b : Bool) → bool_byte b ≡ cond b 1 0
+counted true = refl
+counted false = refl
 
 -- ---- the inverse: the month of a day
 

@@ -1,9 +1,8 @@
 -- `calendar::month::month_of` meets its contract: the guess is the month or the one before it.
 -- Assumes nothing.
-use mathlib.Core.Path.{sym}
 use native.Mathlib.Omega.{arith}
 use Rattle.calendar.specs.Calendar.{leap}
-use Rattle.calendar.proofs.Laws.Month.{guess_small, month_guessed, month_after_guess}
+use Rattle.calendar.proofs.Laws.Month.{guess_small}
 use Rattle.calendar.proofs.month.month_of.Goals as goal
 
 pub overflow_cast-guess : goal.overflow_cast-guess
@@ -15,14 +14,6 @@ overflow_add-guess c = record { fits = omega (arith, guess_small (leap c.args.ye
 pub days_before_month-requires : goal.days_before_month-requires
 days_before_month-requires c = omega (arith, guess_small (leap c.args.year) c.args.j c.requires)
 
-pub returns-then-j-days_before_month : goal.returns-then-j-days_before_month
-returns-then-j-days_before_month c = let s = c in
-    sym (month_guessed (leap s.args.year) s.args.j s.requires (rw c.days_before_month.ensures at c.if-j-days_before_month.true))
-
 pub overflow_add-result : goal.overflow_add-result
 overflow_add-result c = let s = c in
     record { fits = omega (arith, guess_small (leap s.args.year) s.args.j s.requires) }
-
-pub returns : goal.returns
-returns c = let s = c in
-    sym (month_after_guess (leap s.args.year) s.args.j s.requires (rw c.days_before_month.ensures at c.if-j-days_before_month.false))
