@@ -3,7 +3,7 @@
 // too, all by one statement: crates/edges.
 #![tactic(auto)]
 
-use calendar::{Date, DateAnswer, DayAnswer};
+use calendar::Date;
 use content::{Content, Standing};
 use desk::{Answer, Desk, Outcome};
 use layout::{Entry, Numbers};
@@ -99,12 +99,12 @@ fn date(rt: &impl Print, year: u16, month: u8, day: u8) {
     say_date(rt, t);
     say(rt, b": ");
     match t.number() {
-        DayAnswer::Day(z) => {
+        Ok(z) => {
             say(rt, b"day ");
             say_day(rt, z);
             say(rt, b"\n");
         }
-        DayAnswer::Refused(number) => say_refused(rt, number),
+        Err(r) => say_refused(rt, r.number()),
     }
 }
 
@@ -127,11 +127,11 @@ fn day(rt: &impl Print, z: i32) {
     say_day(rt, z);
     say(rt, b": ");
     match Date::of_day(z) {
-        DateAnswer::Date(t) => {
+        Ok(t) => {
             say_date(rt, t);
             say(rt, b"\n");
         }
-        DateAnswer::Refused(number) => say_refused(rt, number),
+        Err(r) => say_refused(rt, r.number()),
     }
 }
 
