@@ -37,7 +37,7 @@ pub fn apply(
     while i < count {
         let e = sheet::entry_at(s, i);
         let on = entry_goes(causal, pkind, e);
-        let d = numbers::signed(e.day);
+        let d = e.day.cast_signed();
         cells::put_kind(kind, on, e.cell as usize, e.kind);
         cells::put_day(day, on, e.cell as usize, d);
         went += cells::one_if(on);

@@ -22,7 +22,7 @@ fn say_signed(rt: &impl Print, z: i64) {
     if z < 0 {
         say(rt, b"-");
     }
-    say_number(rt, numbers::magnitude(z));
+    say_number(rt, z.unsigned_abs());
 }
 
 fn say_day(rt: &impl Print, day: i32) {

@@ -47,7 +47,7 @@ impl Entry {
         ensures { result ≡ entry_for cell c }
     {
         let kind = c.kind();
-        let day = numbers::pattern(c.day());
+        let day = c.day().cast_unsigned();
         Entry { cell, kind, day }
     }
 
@@ -55,7 +55,7 @@ impl Entry {
     pub fn content(self) -> Content
         ensures { result ≡ content_in self }
     {
-        Content::of(self.kind, numbers::signed(self.day))
+        Content::of(self.kind, self.day.cast_signed())
     }
 }
 

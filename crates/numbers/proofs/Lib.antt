@@ -1,4 +1,3 @@
 pub mod Laws
 pub mod Tests
-mod Signs
 pub mod LowFirst

@@ -57,7 +57,7 @@ fn lay_one<'a>(
     let e = Entry {
         cell: i as u8,
         kind: kind,
-        day: numbers::pattern(day),
+        day: day.cast_unsigned(),
     };
     writer::put_entry(buf, at, e);
     at + 6

@@ -49,7 +49,7 @@ fn put_both(line: &mut [u8], at: usize, text: &[u8], n: u64) -> usize {
 }
 
 fn put_day(line: &mut [u8], at: usize, day: i32) -> usize {
-    let n = numbers::without_sign(day);
+    let n = u64::from(day.unsigned_abs());
     if day < 0 {
         return put_both(line, at, b"day -", n);
     }
@@ -160,7 +160,7 @@ fn say_record(rt: &impl Print, line: &mut [u8], input: &[u8], at: usize) -> usiz
     if input.len() - at < 2 {
         return input.len();
     }
-    let len = numbers::u16_of(input[at], input[at + 1]) as usize;
+    let len = usize::from(u16::from_le_bytes([input[at], input[at + 1]]));
     let from = at + 2;
     if input.len() - from < len {
         return input.len();

@@ -23,7 +23,7 @@ fn say_day(rt: &impl Print, day: i32) {
     if day < 0 {
         say(rt, b"-");
     }
-    say_number(rt, b"", numbers::without_sign(day));
+    say_number(rt, b"", u64::from(day.unsigned_abs()));
 }
 
 // An entry's content. No entry that is found is blank: the word is here so that a wrong answer

@@ -17,7 +17,7 @@ fn byte_at(s: &[u8], at: usize) -> u8 {
 
 // Numbers of 4 and of 8 bytes at the front.
 fn number(s: &[u8]) -> u32 {
-    numbers::u32_of(byte_at(s, 0), byte_at(s, 1), byte_at(s, 2), byte_at(s, 3))
+    u32::from_le_bytes([byte_at(s, 0), byte_at(s, 1), byte_at(s, 2), byte_at(s, 3)])
 }
 
 fn long_number(s: &[u8]) -> usize {
@@ -86,7 +86,7 @@ fn size(head: usize, one: usize, other: usize, most: usize) -> usize {
 // lent slice with the room.
 fn play_adding(rt: &impl Print, rest: &mut [u8]) -> usize {
     let len = long_number(slices::part(rest, 1, 9));
-    let sheet = numbers::u16_of(byte_at(rest, 9), byte_at(rest, 10)) as usize;
+    let sheet = usize::from(u16::from_le_bytes([byte_at(rest, 9), byte_at(rest, 10)]));
     let room = number(slices::part(rest, 11, 15)) as usize;
     let end = size(15, sheet, room, rest.len());
     if end == 0 {

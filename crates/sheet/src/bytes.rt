@@ -12,7 +12,7 @@ pub(crate) fn entry_from(s: &[u8], at: usize) -> Entry
     Entry {
         cell: s[at],
         kind: s[at + 1],
-        day: numbers::u32_of(s[at + 2], s[at + 3], s[at + 4], s[at + 5]),
+        day: u32::from_le_bytes([s[at + 2], s[at + 3], s[at + 4], s[at + 5]]),
     }
 }
 
@@ -22,13 +22,13 @@ pub(crate) fn trailer_at(s: &[u8], at: usize) -> Trailer
     ensures { result ≡ trailer_of (drop at s.now) }
 {
     Trailer {
-        distance: numbers::u16_of(s[at], s[at + 1]),
+        distance: u16::from_le_bytes([s[at], s[at + 1]]),
         entries: s[at + 2],
         sender: s[at + 3],
         desks: s[at + 4],
         cells: s[at + 5],
         zero6: s[at + 6],
         zero7: s[at + 7],
-        turn: numbers::u32_of(s[at + 8], s[at + 9], s[at + 10], s[at + 11]),
+        turn: u32::from_le_bytes([s[at + 8], s[at + 9], s[at + 10], s[at + 11]]),
     }
 }

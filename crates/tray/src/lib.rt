@@ -35,7 +35,7 @@ pub fn length_at(tray: &[u8], q: u8) -> u16
     let at = 398 * (q as usize);
     let low = byte_at(tray, at);
     let high = byte_at(tray, at + 1);
-    numbers::u16_of(low, high)
+    u16::from_le_bytes([low, high])
 }
 
 // "deliver counts it free if its first two bytes are zero".
@@ -109,7 +109,7 @@ pub fn hold(tray: &mut [u8], q: u8, sheet: &[u8])
     if tray.len() < end {
         return;
     }
-    let two = numbers::u16_bytes(len as u16);
+    let two = (len as u16).to_le_bytes();
     laying::put(tray, at, &two);
     laying::put(tray, at + 2, sheet);
     put_zeros(tray, at + 2 + len, end);

@@ -26,7 +26,7 @@ pub enum Written {
 pub fn put_entry(buf: &mut [u8], at: usize, e: Entry)
     ensures { buf.new ≡ laid_over buf.old at (entry_bytes e) }
 {
-    let d = numbers::u32_bytes(e.day);
+    let d = e.day.to_le_bytes();
     let six = [e.cell, e.kind, d[0], d[1], d[2], d[3]];
     laying::put(buf, at, &six);
 }
@@ -35,8 +35,8 @@ pub fn put_entry(buf: &mut [u8], at: usize, e: Entry)
 pub fn put_trailer(buf: &mut [u8], at: usize, t: Trailer)
     ensures { buf.new ≡ laid_over buf.old at (trailer_bytes t) }
 {
-    let d = numbers::u16_bytes(t.distance);
-    let n = numbers::u32_bytes(t.turn);
+    let d = t.distance.to_le_bytes();
+    let n = t.turn.to_le_bytes();
     let twelve = [
         d[0], d[1], t.entries, t.sender, t.desks, t.cells, t.zero6, t.zero7, n[0], n[1], n[2], n[3],
     ];

@@ -1,6 +1,8 @@
 -- `hold` meets its contract: the three parts that it lays stand one behind the other, and are the whole place (`hold_whole`).
 -- Assumes nothing.
+use mathlib.Core.Path.{◌∙◌}
 use borrow.Author.Rules.{rules}
+use Rattle.numbers.proofs.LowFirst.{bytes_of_2}
 use Rattle.tray.proofs.Laws.Holding.{holds, hold_whole}
 use Rattle.tray.proofs.hold.Goals as goal
 
@@ -12,5 +14,5 @@ returns-then-tray-end c = search (holds, rules)
 
 pub returns : goal.returns
 returns c =
-    hold_whole c.args.tray.now c.args.q c.args.sheet.now c.if-len-gt396.false c.if-tray-end.false _ c.u16_bytes-two.ensures _
+    hold_whole c.args.tray.now c.args.q c.args.sheet.now c.if-len-gt396.false c.if-tray-end.false _ (c.to_le_bytes-two.ensures ∙ bytes_of_2 _) _
     c.put.ensures _ c.put-2.ensures _ c.put_zeros.ensures
