@@ -115,7 +115,7 @@ said_day = said (λ z. z)
 abbrev pub said_date : Result Date Refusal → Answer Date
 said_date = said (λ t. t)
 
--- ---- a date as it is printed, as docs/CRATES.md has it: `1970-01-01`
+-- ---- a date as the programs print it: `1970-01-01`
 
 -- a number with zeros before it, up to so many digits
 abbrev pub wide : ℕ → ℕ → List ℕ
