@@ -11,7 +11,7 @@ use content::Content;
 
 // An entry as it stands in a sheet: the day is the number of its four bytes. Not every kind and day
 // is a good entry's.
-#[derive(Clone, Copy)]
+#[derive(Clone, Copy, Debug, PartialEq, Eq)]
 pub struct Entry {
     pub cell: u8,
     pub kind: u8,
@@ -19,7 +19,9 @@ pub struct Entry {
 }
 
 // A trailer as it stands in a sheet.
-#[derive(Clone, Copy)]
+// Stays: no `Numbers` stands in it, since its numbers lie apart among the bytes, in this order, and
+// `trailer_of`, `trailer_bytes` and `good_trailer` name each by its place.
+#[derive(Clone, Copy, Debug, PartialEq, Eq)]
 pub struct Trailer {
     pub distance: u16,
     pub entries: u8,
@@ -32,7 +34,7 @@ pub struct Trailer {
 }
 
 // The numbers that a trailer carries.
-#[derive(Clone, Copy)]
+#[derive(Clone, Copy, Debug, PartialEq, Eq)]
 pub struct Numbers {
     pub entries: u8,
     pub sender: u8,
@@ -59,37 +61,66 @@ impl Entry {
     }
 }
 
-impl Trailer {
-    // The numbers that the trailer carries.
-    pub fn numbers(self) -> Numbers
-        ensures { result ≡ numbers_of self }
-    {
-        let t = self;
+// The numbers that a trailer carries.
+impl From<Trailer> for Numbers {
+    ghost from_gives = { λ t result. result ≡ numbers_of t };
+
+    fn from(t: Trailer) -> Numbers {
+        let Trailer {
+            entries,
+            sender,
+            desks,
+            cells,
+            turn,
+            ..
+        } = t;
         Numbers {
-            entries: t.entries,
-            sender: t.sender,
-            desks: t.desks,
-            cells: t.cells,
-            turn: t.turn,
+            entries,
+            sender,
+            desks,
+            cells,
+            turn,
         }
     }
 }
 
+// The trailer that carries the numbers.
+impl From<Numbers> for Trailer {
+    ghost from_gives = { λ n result. result ≡ trailer_for n };
+
+    fn from(n: Numbers) -> Trailer {
+        let Numbers {
+            entries,
+            sender,
+            desks,
+            cells,
+            turn,
+        } = n;
+        Trailer {
+            distance: 6 * u16::from(entries),
+            entries,
+            sender,
+            desks,
+            cells,
+            zero6: 0,
+            zero7: 0,
+            turn,
+        }
+    }
+}
+
+impl Trailer {
+    pub fn numbers(self) -> Numbers
+        ensures { result ≡ numbers_of self }
+    {
+        self.into()
+    }
+}
+
 impl Numbers {
-    // The trailer that carries the numbers.
     pub fn trailer(self) -> Trailer
         ensures { result ≡ trailer_for self }
     {
-        let n = self;
-        Trailer {
-            distance: 6 * (n.entries as u16),
-            entries: n.entries,
-            sender: n.sender,
-            desks: n.desks,
-            cells: n.cells,
-            zero6: 0,
-            zero7: 0,
-            turn: n.turn,
-        }
+        self.into()
     }
 }

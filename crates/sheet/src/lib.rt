@@ -25,7 +25,7 @@ pub fn read(s: &[u8]) -> Result<Numbers, Refusal>
     let t = bytes::trailer_at(s, back);
     Refusal::SheetNotGood.when(!good_trailer(t, back))?;
     Refusal::SheetNotGood.when(!good_entries(s, t.entries, t.cells))?;
-    Ok(t.numbers())
+    Ok(Numbers::from(t))
 }
 
 // The trailer at the end of bytes, for whoever goes back through sheets that stand end to end;

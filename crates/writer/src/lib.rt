@@ -52,7 +52,7 @@ pub fn write(buf: &mut [u8], n: Numbers, es: [Entry; 64]) -> Written
         return Written::Refused(13);
     }
     let back = 6 * count;
-    let t = n.trailer();
+    let t = Trailer::from(n);
     if !sheet::good_trailer(t, back) {
         return Written::Refused(13);
     }
