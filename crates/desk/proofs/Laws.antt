@@ -1,6 +1,6 @@
-pub mod Answers
 pub mod Allowed
-pub mod Steps
+pub mod Answers
+pub mod Calls
 pub mod Writes
 pub mod Sends
 pub mod Takes

@@ -1,9 +1,11 @@
 -- What a call of a desk gives back: its answer, the next record, and what it leaves of the bytes lent to it. 01: "Each call takes the
 -- record and gives back the next record beside its answer."
 -- Assumes nothing.
-use Rattle.std.specs.Prelude.{ℕ, List}
+use Rattle.std.specs.Prelude.{ℕ, List, Result, Some, None, Option as Given}
 use Rattle.std.proofs.Math.Option.{Option, none, some}
-use Rattle.answer.specs.Answer.{Answer, Rule, refused, answered, answer, leaves}
+use Rattle.answer.specs.declared.Refusal.{Refusal}
+use Rattle.answer.specs.Answer.{Answer, Rule, answer, leaves}
+use Rattle.answer.specs.Refusals.{said}
 use Rattle.content.specs.declared.Content.{Content}
 use Rattle.desk.specs.declared.Desk.{Desk}
 use Rattle.desk.specs.declared.Outcome.{Outcome}
@@ -26,17 +28,24 @@ pub data Value : Type 0 where
   -- now the desk's own and a read waits, the answer carries that cell's content"
   taken : (turn entries applied : ℕ) (waited : Option Content) → Value
 
+-- the content that an answer carries, if it does, as the code gives it
+abbrev pub waited_of : Given Content → Option Content
+waited_of None = none
+waited_of (Some c) = some c
+
 -- what each case of the code's enum says
-abbrev pub said_answer : declared.Answer → Answer Value
-said_answer answers.Opened = answered opened
-said_answer answers.Stored = answered stored
-said_answer (answers.Holds c) = answered (holds c)
-said_answer answers.Waits = answered waits
-said_answer (answers.Sent t n) = answered (sent t n)
-said_answer answers.Held = answered held
-said_answer (answers.Taken t n k) = answered (taken t n k none)
-said_answer (answers.TakenAndRead t n k c) = answered (taken t n k (some c))
-said_answer (answers.Refused k) = refused k
+abbrev pub value_of : declared.Answer → Value
+value_of answers.Opened = opened
+value_of answers.Stored = stored
+value_of (answers.Holds c) = holds c
+value_of answers.Waits = waits
+value_of (answers.Sent t n) = sent t n
+value_of answers.Held = held
+value_of (answers.Taken t n k w) = taken t n k (waited_of w)
+
+-- what the code's answer says: that value, or a refusal's number
+abbrev pub said_answer : Result declared.Answer Refusal → Answer Value
+said_answer r = said value_of r
 
 -- all that a call settles: `lent` are the bytes of the buffer or the tray that it was lent, afterwards; none, for a call that is lent none
 pub record Done : Type 0 where
@@ -44,9 +53,13 @@ pub record Done : Type 0 where
   pub desk : Desk
   pub lent : List ℕ
 
--- what an outcome of the code comes to, with the lent bytes as they are when the call returns
+-- what the code's answer and next record come to, with the lent bytes as they are when the call returns
+abbrev pub settled : Result declared.Answer Refusal → Desk → List ℕ → Done
+settled r d lent = record { answer = said_answer r; desk = d; lent = lent }
+
+-- what an outcome of the code comes to
 abbrev pub outcome : Outcome → List ℕ → Done
-outcome o lent = record { answer = said_answer o.answer; desk = o.desk; lent = lent }
+outcome o lent = settled o.answer o.desk lent
 
 -- a call with these rules, in 01's order, on a record and lent bytes: "the first that applies is given, and none otherwise. The answer is
 -- then that number alone, and the record and all lent bytes are as before." Where none applies, the value, the next record and the lent

@@ -1,34 +1,27 @@
 -- What the private functions of this crate find. Nobody need believe it: the public promises are those of specs/Calls.antt.
 -- Assumes nothing.
-use Rattle.std.specs.Prelude.{ℕ, ◌+◌, Bool, cond, not, ◌&&◌, List, eqb, ltb}
-use Rattle.sound.specs.declared.Head.{Head}
-use Rattle.sound.specs.Head.{sequential, own_turn}
+use Rattle.std.specs.Prelude.{ℕ, Bool, cond, ◌&&◌}
+use Rattle.std.proofs.Math.Option.{Option, none, some}
+use Rattle.answer.specs.Answer.{Answer, answer}
 use Rattle.content.specs.declared.Content.{Content}
-use Rattle.cells.specs.Cells.{blank, filled, anywhere}
-use Rattle.tray.specs.Tray.{held_in}
-use Rattle.desk.specs.Calls.{mode_for, fresh_head}
-use Rattle.desk.specs.declared.Answer.{Answer}
-use Rattle.desk.specs.declared.Answer.TheVariants as answers
+use Rattle.sound.specs.declared.Head.{Head}
+use Rattle.sound.specs.Head.{own_turn, read_waits, wait_cell}
+use Rattle.desk.specs.declared.Desk.{Desk}
+use Rattle.desk.specs.Calls.{open_rules, mode_for, fresh_head, shown_at, with_head}
 
--- an answer, where the number is none
-unfoldable pub given : ℕ → Answer → Answer
-given number a = cond (eqb number 0) a (answers.Refused number)
+-- the head of a desk that is opened
+abbrev pub opened_head : ℕ → ℕ → ℕ → ℕ → Answer Head
+opened_head n m own mode = answer (open_rules n m own mode) (fresh_head n m own (mode_for mode))
 
-unfoldable pub opened_head : ℕ → ℕ → ℕ → ℕ → ℕ → Head
-opened_head number n m own mode = cond (eqb number 0) (fresh_head n m own (mode_for mode)) (fresh_head 0 0 0 0)
+-- a read waits in this record, and the turn is the desk's own
+abbrev pub ends : Head → Bool
+ends h = read_waits h && own_turn h
 
--- `must_wait`, of a head and pending kinds
-unfoldable pub waits_for : Head → List ℕ → ℕ → Bool
-waits_for h pkind cell = sequential h && anywhere 64 (filled pkind) && blank pkind cell && not (own_turn h)
+-- that read's answer, and the record without it
+abbrev pub waited_in : Desk → Option Content
+waited_in d = cond (ends d.head) (some (shown_at d (wait_cell d.head))) none
 
-unfoldable pub wait_at : Bool → ℕ → ℕ → ℕ
-wait_at waits wait cell = cond (waits && ltb cell 64) (cell + 1) wait
-
-unfoldable pub read_answer : Bool → Content → Answer
-read_answer waits c = cond waits answers.Waits (answers.Holds c)
-
-unfoldable pub held_if : Bool → List ℕ → ℕ → List ℕ → List ℕ
-held_if on tray q s = cond on (held_in tray q s) tray
-
-unfoldable pub taken_answer : ℕ → ℕ → ℕ → Bool → Content → Answer
-taken_answer turn entries applied over c = cond over (answers.TakenAndRead turn entries applied c) (answers.Taken turn entries applied)
+abbrev pub read_over : Desk → Desk
+read_over d =
+    let h = d.head in
+    with_head (record { n = h.n; m = h.m; own = h.own; mode = h.mode; turn = h.turn; wait = cond (ends h) 0 h.wait }) d

@@ -1,17 +1,17 @@
 -- 01, "Send": "Writes one sheet with every pending entry, an empty sheet if there are none .. Bytes of the lent buffer past the sheet stay."
 -- 11 is "buffer shorter than the sheet".
 -- Assumes nothing.
-use Rattle.std.specs.Prelude.{◌≡◌, ℕ, zero, suc, cond, List, [], ◌∷◌, ◌++◌, ltb, ℤ, length, drop}
+use Rattle.std.specs.Prelude.{◌≡◌, ℕ, zero, suc, cond, Result, List, [], ◌∷◌, ◌++◌, ltb, ℤ, length, drop}
 use Rattle.std.specs.Int.{w32}
 use Rattle.std.proofs.Common.{of_z}
-use Rattle.answer.specs.Answer.{Answer, Rule, refused, answered, ◌if◌, answer, leaves}
+use Rattle.answer.specs.Answer.{Answer, Rule, ◌if◌, answer, leaves}
+use Rattle.answer.specs.declared.Refusal.{Refusal}
+use Rattle.answer.specs.Refusals.{said}
 use Rattle.cells.specs.Cells.{kind_at, day_at, filled}
 use Rattle.sound.specs.declared.Head.{Head}
 use Rattle.layout.specs.declared.Entry.{Entry}
 use Rattle.layout.specs.declared.Numbers.{Numbers}
 use Rattle.layout.specs.Layout.{sheet_bytes, trailer_for}
-use Rattle.pending.specs.declared.Sent.{Sent}
-use Rattle.pending.specs.declared.Sent.TheVariants as sent
 
 -- the entry of a cell's pending place: its kind and its day
 abbrev pub entry_in : List ℕ → List ℤ → ℕ → Entry
@@ -50,12 +50,11 @@ buffer_with h pkind pday buf =
     let sheet = sheet_of h pkind pday in
     leaves (room_rules sheet buf) buf (sheet ++ drop (length sheet) buf)
 
--- what each case of the code's enum says
-abbrev pub said_sent : Sent → Answer ℕ
-said_sent (sent.Entries n) = answered n
-said_sent (sent.Refused k) = refused k
+-- what the code's answer says
+abbrev pub said_sent : Result ℕ Refusal → Answer ℕ
+said_sent r = said (λ n. n) r
 
 -- a call that found the buffer `before`, left it as `after` and answered r
-pub record Sends (h : Head) (pkind : List ℕ) (pday : List ℤ) (before : List ℕ) (r : Sent) (after : List ℕ) : Type 0 where
+pub record Sends (h : Head) (pkind : List ℕ) (pday : List ℤ) (before : List ℕ) (r : Result ℕ Refusal) (after : List ℕ) : Type 0 where
   pub answers : said_sent r ≡ entries_sent h pkind pday before
   pub buffer : after ≡ buffer_with h pkind pday before

@@ -10,15 +10,9 @@ ghost use Rattle.layout.specs.Layout.{entries_bytes};
 ghost use Rattle.pending.specs.Pending.{pending_entries, Sends};
 ghost use Rattle.pending.specs.Parts.{some_of_eight, pending_at, pending_from, Lays};
 
+use answer::Refusal;
 use layout::{Entry, Numbers};
 use sound::Head;
-
-#[derive(Clone, Copy)]
-pub enum Sent {
-    // The number of entries.
-    Entries(u8),
-    Refused(u8),
-}
 
 // Whether one of the eight places from `from` on is filled.
 fn some_of_eight(pkind: &[u8; 64], from: usize) -> bool
@@ -100,15 +94,19 @@ fn lay_all<'a>(buf: &mut [u8], pkind: &'a [u8; 64], pday: &'a [i32; 64])
     }
 }
 
-// Writes the sheet of a desk with these numbers and pending places. Refusal 11.
-pub fn write_sheet<'a>(buf: &mut [u8], h: Head, pkind: &'a [u8; 64], pday: &'a [i32; 64]) -> Sent
+// Writes the sheet of a desk with these numbers and pending places; answers its number of entries.
+// Refusal 11.
+pub fn write_sheet(
+    buf: &mut [u8],
+    h: Head,
+    pkind: &[u8; 64],
+    pday: &[i32; 64],
+) -> Result<u8, Refusal>
     ensures { Sends h pkind.now pday.now buf.old result buf.new }
 {
     let count = cells::count_filled(pkind);
     let back = 6 * (count as usize);
-    if buf.len() < back + 12 {
-        return Sent::Refused(11);
-    }
+    Refusal::BufferShort.when(buf.len() < back + 12)?;
     lay_all(buf, pkind, pday);
     let numbers = Numbers {
         entries: count,
@@ -118,5 +116,5 @@ pub fn write_sheet<'a>(buf: &mut [u8], h: Head, pkind: &'a [u8; 64], pday: &'a [
         turn: h.turn,
     };
     writer::put_trailer(buf, back, numbers.trailer());
-    Sent::Entries(count)
+    Ok(count)
 }

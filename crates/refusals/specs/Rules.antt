@@ -4,14 +4,13 @@
 -- and 13, which are found where a sheet is written or read.
 -- Assumes nothing.
 use Rattle.std.specs.Prelude.{ℕ, ◌+◌, ◌*◌, Bool, not, ◌&&◌, List, [], ◌∷◌, eqb, leb, ltb}
-use Rattle.answer.specs.Answer.{Rule, ◌if◌, leaves, first_number}
+use Rattle.answer.specs.Answer.{Answer, Rule, ◌if◌, answer}
 use Rattle.numbers.specs.Limits.{desks_within, cells_within}
 use Rattle.layout.specs.declared.Numbers.{Numbers}
 use Rattle.layout.specs.Layout.{trailer_in, numbers_of}
 use Rattle.sound.specs.declared.Head.{Head}
 use Rattle.sound.specs.Head.{turn_desk, own_turn, read_waits}
 use Rattle.tray.specs.Tray.{free, sheet_at, holds_good}
-use Rattle.refusals.specs.declared.Looked.{Looked}
 
 -- the greatest turn number
 abbrev pub last_turn : ℕ
@@ -93,8 +92,6 @@ place_tests h tray q =
     ∷ 21 if not (holds_good tray q && is_next h (numbers_of (trailer_in (sheet_at tray q))))
     ∷ []
 
--- what a look at that place finds: the number, and the sheet's number of entries where it is 0
-unfoldable pub looked_at : Head → List ℕ → ℕ → Looked
-looked_at h tray q =
-    let rules = place_tests h tray q in
-    record { number = first_number rules; entries = leaves rules 0 (trailer_in (sheet_at tray q)).entries }
+-- what a look at that place finds: the number, or the sheet's number of entries
+unfoldable pub looked_at : Head → List ℕ → ℕ → Answer ℕ
+looked_at h tray q = answer (place_tests h tray q) (trailer_in (sheet_at tray q)).entries

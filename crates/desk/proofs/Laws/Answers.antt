@@ -3,10 +3,11 @@
 -- Assumes nothing.
 use mathlib.Core.Path.{◌≡◌, refl}
 use mathlib.Core.Option.{none, some}
-use Rattle.answer.proofs.Laws.{again, apart}
+use Rattle.std.specs.Prelude.{Some, None}
+use Rattle.answer.proofs.Refusals.{said_apart}
 use Rattle.desk.specs.declared.Answer.{Answer}
 use Rattle.desk.specs.declared.Answer.TheVariants as answers
-use Rattle.desk.specs.Answers.{Value, opened, stored, holds, waits, sent, held, taken, said_answer}
+use Rattle.desk.specs.Answers.{Value, opened, stored, holds, waits, sent, held, taken, value_of}
 use Rattle.desk.specs.Promises.{AnswersApart}
 
 answering : Value → Answer
@@ -16,10 +17,10 @@ answering (holds c) = answers.Holds c
 answering waits = answers.Waits
 answering (sent t n) = answers.Sent t n
 answering held = answers.Held
-answering (taken t n k none) = answers.Taken t n k
-answering (taken t n k (some c)) = answers.TakenAndRead t n k c
+answering (taken t n k none) = answers.Taken t n k None
+answering (taken t n k (some c)) = answers.Taken t n k (Some c)
 
-found : (a : Answer) → again answers.Refused answering (said_answer a) ≡ a
+found : (a : Answer) → answering (value_of a) ≡ a
 unfolding answering
 found answers.Opened = refl
 found answers.Stored = refl
@@ -27,9 +28,8 @@ found (answers.Holds c) = refl
 found answers.Waits = refl
 found (answers.Sent t n) = refl
 found answers.Held = refl
-found (answers.Taken t n k) = refl
-found (answers.TakenAndRead t n k c) = refl
-found (answers.Refused k) = refl
+found (answers.Taken t n k None) = refl
+found (answers.Taken t n k (Some c)) = refl
 
 pub said_answer_tells_apart : AnswersApart
-said_answer_tells_apart a b = apart said_answer (again answers.Refused answering) found
+said_answer_tells_apart a b = said_apart value_of answering found a b

@@ -1,159 +1,94 @@
--- Open, write and read as the code makes them: straight through, each store under one test, that the number of the first rule that
--- applies is 0.
---   makings             a set for `search`
+-- Open, write and read as the code makes them: one law for each return, and for what is asked on the way.
 -- Assumes nothing.
-use Prim.Native.Nat.{ℕ, ◌<◌, ◌^◌}
+use Prim.Native.Nat.{ℕ, ◌<◌}
 use mathlib.Core.Path.{◌≡◌, refl, sym, ◌∙◌}
-use mathlib.Core.Bool.{Bool, true, false, cond, ◌&&◌}
+use mathlib.Core.Bool.{Bool, true, false, cond}
 use mathlib.Core.List.{List, []}
 use native.Mathlib.Omega.{arith}
-use lib.Dec.{eqb}
 use lib.IntN.{ℤ}
-use lib.Signed.{mag}
-use mir.Syntax.{w32}
-use mir.Val.{to_z, of_z}
-use mir.Facts.{to_z-of_z}
-use borrow.Author.Tests.{eqb-true, eqb-false, lt-ltb}
-use Rattle.answer.specs.Answer.{Rule, refused, answered, first_number}
-use Rattle.answer.specs.Parts.{Numbered}
-use Rattle.answer.proofs.Laws.{silent_if_0, first_if_number, answered_if, changed_if, refused_if, unchanged_if}
+use Rattle.std.specs.Prelude.{Result, Ok, Err}
+use Rattle.answer.specs.Answer.{Rule, refused, answered}
+use Rattle.answer.specs.Promises.{Silent}
+use Rattle.answer.specs.declared.Refusal.{Refusal}
+use Rattle.answer.specs.Refusals.{number_of, first_of}
+use Rattle.answer.proofs.Laws.{answered_only_if, refused_only_if}
 use Rattle.content.specs.declared.Content.{Content}
 use Rattle.content.specs.Content.{kind_of, day_of}
 use Rattle.cells.specs.Cells.{content_at, put_if}
-use Rattle.cells.proofs.Laws.{put_off}
 use Rattle.sound.specs.declared.Head.{Head}
 use Rattle.refusals.specs.Rules.{write_tests, read_tests}
-use Rattle.refusals.proofs.Laws.Rules.{open_numbered, write_numbered, read_numbered}
 use Rattle.desk.specs.declared.Desk.{Desk}
-use Rattle.desk.specs.declared.Outcome.{Outcome}
 use Rattle.desk.specs.declared.Answer as declared
 use Rattle.desk.specs.declared.Answer.TheVariants as answers
-use Rattle.desk.specs.Answers.{Value, Done, opened, stored, holds, waits, outcome, call}
-use Rattle.desk.specs.Calls.{sound, open_rules, blank_desk, fresh_head, mode_for, open_of, write_rules, written_desk, write_of, read_rules, must_wait, waiting_desk, read_of}
-use Rattle.desk.specs.Parts.{given, opened_head, waits_for, wait_at, read_answer}
-use Rattle.desk.proofs.Laws.Allowed.{desk_says, open_allows, read_allows}
-use Rattle.desk.proofs.Laws.Steps.{waits_are}
-
--- ---- a call by its number
-
--- what any call comes to where the first rule that applies has the number `number`: 0, or a refusal's
-pub call_carried_out : (rules : List Rule) → Numbered rules → (d : Desk) (lent : List ℕ) (v : Value) (d' : Desk) (lent' : List ℕ) → first_number rules ≡ 0
-    → ◌≡◌ {A = Done} (record { answer = answered v; desk = d'; lent = lent' }) (call rules d lent v d' lent')
-call_carried_out rules some d lent v d' lent' e =
-    let silent = silent_if_0 rules some e in
-    λ i. record { answer = sym (answered_if rules v silent) i; desk = sym (changed_if rules d d' silent) i; lent = sym (changed_if rules lent lent' silent) i }
-
-pub call_refused : (rules : List Rule) (d : Desk) (lent : List ℕ) (v : Value) (d' : Desk) (lent' : List ℕ) (k : ℕ) → first_number rules ≡ k → (k ≡ 0 → ⊥)
-    → ◌≡◌ {A = Done} (record { answer = refused k; desk = d; lent = lent }) (call rules d lent v d' lent')
-call_refused rules d lent v d' lent' k e h =
-    let first = first_if_number rules k e h in
-    λ i. record { answer = sym (refused_if v first) i; desk = sym (unchanged_if d d' first) i; lent = sym (unchanged_if lent lent' first) i }
-
--- ---- write
-
-module _ (d : Desk) (cell : ℕ) (c : Content) where
-  numbered : Numbered (write_rules d cell c)
-  numbered = write_numbered (sound d) d.head cell (kind_of c)
-
-  -- with the number n, each store under the test that it is 0
-  abbrev made : ℕ → Outcome
-  made n =
-      record {
-        answer = given n answers.Stored;
-        desk = record {
-          head = d.head;
-          kind = put_if (eqb n 0) d.kind cell (kind_of c);
-          day = put_if (eqb n 0) d.day cell (day_of c);
-          pkind = put_if (eqb n 0) d.pkind cell (kind_of c);
-          pday = put_if (eqb n 0) d.pday cell (day_of c);
-        };
-      }
-
-  write_made : (n : ℕ) (t : Bool) → eqb n 0 ≡ t → first_number (write_rules d cell c) ≡ n → outcome (made n) [] ≡ write_of d cell c
-  unfolding write_of given
-  write_made n true p e =
-      rw p (call_carried_out (write_rules d cell c) numbered d [] stored (written_desk d cell c) [] (e ∙ eqb-true n 0 p))
-  write_made n false p e =
-      rw (p, ← put_off d.kind cell (kind_of c) {on = false} refl, ← put_off d.day cell (day_of c) {on = false} refl, ← put_off d.pkind cell (kind_of c) {on = false} refl, ← put_off d.pday cell (day_of c) {on = false} refl)
-      (call_refused (write_rules d cell c) d [] stored (written_desk d cell c) [] n e (eqb-false n 0 p))
-
-  pub written :
-      {ok : Bool} {number kind : ℕ} {day : ℤ} {a : declared.Answer} {ks pks : List ℕ} {ds pds : List ℤ}
-      → a ≡ given number answers.Stored → number ≡ first_number (write_tests ok d.head cell kind) → ok ≡ sound d → kind ≡ kind_of c
-      → ks ≡ put_if (eqb number 0) d.kind cell kind → ds ≡ put_if (eqb number 0) d.day cell day
-      → pks ≡ put_if (eqb number 0) d.pkind cell kind → pds ≡ put_if (eqb number 0) d.pday cell day
-      → day ≡ day_of c
-      → outcome (record { answer = a; desk = record { head = d.head; kind = ks; day = ds; pkind = pks; pday = pds } }) [] ≡ write_of d cell c
-  written {number = number} a n s k ks ds pks pds z =
-      rw (a, ks, ds, pks, pds, z, k) (write_made number (eqb number 0) refl (sym (n ∙ rw (s, k))))
-
--- a day that a call gave, as it is handed on
-pub handed : {y z : ℤ} → mag z < 2 ^ 31 → z ≡ y → to_z w32 (of_z w32 z) ≡ y
-handed {z = z} h e = to_z-of_z {w = w32} {z = z} (record { sfits = h }) ∙ e
+use Rattle.desk.specs.Answers.{opened, stored, holds, waits, settled}
+use Rattle.desk.specs.Calls.{sound, open_rules, blank_desk, zero_desk, fresh_head, mode_for, open_of, write_rules, written_desk, write_of, read_rules, must_wait, waiting_desk, read_of}
+use Rattle.desk.specs.Parts.{opened_head}
+use Rattle.desk.proofs.Laws.Allowed.{desk_says, read_allows}
+use Rattle.desk.proofs.Laws.Calls.{silent_if_said, first_if_said, refused_so, done_so}
 
 -- ---- open
 
 module _ (n m own mode : ℕ) where
-  -- what an open that is carried out has been given fits a record
-  pub open_fits : {number : ℕ} → number ≡ first_number (open_rules n m own mode) → number ≡ 0 → (n < 256) × ((m < 256) × ((own < 256) × (mode < 256)))
-  open_fits e z =
-      let allowed = open_allows n m own mode (silent_if_0 (open_rules n m own mode) (open_numbered n m own mode) (sym e ∙ z)) in
-      (omega (arith, allowed.desks_most), (omega (arith, allowed.cells_most), (omega (arith, allowed.own_below, allowed.desks_most), omega (arith, allowed.mode_most))))
+  rules : List Rule
+  rules = open_rules n m own mode
 
-  abbrev opened_with : ℕ → Outcome
-  opened_with k = record { answer = given k answers.Opened; desk = blank_desk (opened_head k n m own mode) }
+  head : Head
+  head = fresh_head n m own (mode_for mode)
 
-  open_made : (k : ℕ) (t : Bool) → eqb k 0 ≡ t → first_number (open_rules n m own mode) ≡ k → outcome (opened_with k) [] ≡ open_of n m own mode
-  unfolding open_of given opened_head
-  open_made k true p e =
-      rw p (call_carried_out (open_rules n m own mode) (open_numbered n m own mode) (blank_desk (fresh_head 0 0 0 0)) [] opened (blank_desk (fresh_head n m own (mode_for mode))) [] (e ∙ eqb-true k 0 p))
-  open_made k false p e =
-      rw p (call_refused (open_rules n m own mode) (blank_desk (fresh_head 0 0 0 0)) [] opened (blank_desk (fresh_head n m own (mode_for mode))) [] k e (eqb-false k 0 p))
+  pub opened_so : {h : Head} → answered h ≡ opened_head n m own mode → settled (Ok answers.Opened) (blank_desk h) [] ≡ open_of n m own mode
+  unfolding open_of rules head
+  opened_so {h} e =
+      let made = answered_only_if rules head h (sym e) in
+      rw (← made.1) (done_so rules zero_desk [] opened (blank_desk head) [] answers.Opened refl made.0)
 
-  pub opened_so : {number : ℕ} {a : declared.Answer} {h : Head} → a ≡ given number answers.Opened → h ≡ opened_head number n m own mode → number ≡ first_number (open_rules n m own mode)
-      → outcome (record { answer = a; desk = blank_desk h }) [] ≡ open_of n m own mode
-  opened_so {number = number} a h e = rw (a, h) (open_made number (eqb number 0) refl (sym e))
+  pub open_refused : (x : Refusal) → refused (number_of x) ≡ opened_head n m own mode → settled (Err x) zero_desk [] ≡ open_of n m own mode
+  unfolding open_of rules head
+  open_refused x e =
+      refused_so rules zero_desk [] opened (blank_desk head) [] refl (refused_only_if rules head (number_of x) (sym e))
+
+-- ---- write
+
+module _ (d : Desk) (cell : ℕ) (c : Content) {ok : Bool} {kind : ℕ} (s : ok ≡ sound d) (k : kind ≡ kind_of c) where
+  pub write_refused : {x : Refusal} → refused (number_of x) ≡ first_of (write_tests ok d.head cell kind) → {r : Result declared.Answer Refusal} → r ≡ Err x
+      → settled r d [] ≡ write_of d cell c
+  unfolding write_of
+  write_refused e is =
+      refused_so (write_rules d cell c) d [] stored (written_desk d cell c) [] is (first_if_said (write_rules d cell c) (e ∙ rw (s, k)))
+
+  pub stored_so :
+      {u : Unit {0}} → answered u ≡ first_of (write_tests ok d.head cell kind)
+      → {day : ℤ} {ks pks : List ℕ} {ds pds : List ℤ}
+      → day ≡ day_of c
+      → ks ≡ put_if true d.kind cell kind → ds ≡ put_if true d.day cell day
+      → pks ≡ put_if true d.pkind cell kind → pds ≡ put_if true d.pday cell day
+      → settled (Ok answers.Stored) (record { head = d.head; kind = ks; day = ds; pkind = pks; pday = pds }) [] ≡ write_of d cell c
+  unfolding write_of
+  stored_so e z ks ds pks pds =
+      rw (ks, ds, pks, pds, z, k) (done_so (write_rules d cell c) d [] stored (written_desk d cell c) [] answers.Stored refl (silent_if_said (write_rules d cell c) (e ∙ rw (s, k))))
 
 -- ---- read
 
-module _ (d : Desk) (cell : ℕ) where
-  some_number : Numbered (read_rules d cell)
-  some_number = read_numbered (sound d) d.head cell
+module _ (d : Desk) (cell : ℕ) {ok : Bool} (s : ok ≡ sound d) where
+  pub read_refused : {x : Refusal} → refused (number_of x) ≡ first_of (read_tests ok d.head cell) → {r : Result declared.Answer Refusal} → r ≡ Err x
+      → settled r d [] ≡ read_of d cell
+  unfolding read_of
+  read_refused e is =
+      refused_so (read_rules d cell) d [] (cond (must_wait d cell) waits (holds (content_at d.kind d.day cell))) (cond (must_wait d cell) (waiting_desk d cell) d) [] is
+      (first_if_said (read_rules d cell) (e ∙ rw s))
 
-  -- the head with this waiting read
-  abbrev with_wait : ℕ → Head
-  with_wait w = let h = d.head in record { n = h.n; m = h.m; own = h.own; mode = h.mode; turn = h.turn; wait = w }
+  module _ {u : Unit {0}} (e : answered u ≡ first_of (read_tests ok d.head cell)) where
+    silent : Silent (read_rules d cell)
+    silent = silent_if_said (read_rules d cell) (e ∙ rw s)
 
-  abbrev read_with : ℕ → Bool → Outcome
-  read_with k w =
-      record {
-        answer = given k (read_answer w (content_at d.kind d.day cell));
-        desk = record { head = with_wait (wait_at w d.head.wait cell); kind = d.kind; day = d.day; pkind = d.pkind; pday = d.pday };
-      }
+    pub cell_below : cell < 64
+    cell_below = let allowed = read_allows d cell silent in omega (arith, allowed.cell_below, (desk_says d allowed.is_sound).cells_most)
 
-  cell_below : first_number (read_rules d cell) ≡ 0 → cell < 64
-  cell_below e =
-      let allowed = read_allows d cell (silent_if_0 (read_rules d cell) some_number e) in
-      omega (arith, allowed.cell_below, (desk_says d allowed.is_sound).cells_most)
+    module _ {must : Bool} (is : must ≡ must_wait d cell) where
+      pub waits_so : must ≡ true → settled (Ok answers.Waits) (waiting_desk d cell) [] ≡ read_of d cell
+      unfolding read_of
+      waits_so t = rw (sym is ∙ t) (done_so (read_rules d cell) d [] waits (waiting_desk d cell) [] answers.Waits refl silent)
 
-  read_made : (k : ℕ) (t u : Bool) → eqb k 0 ≡ t → must_wait d cell ≡ u → first_number (read_rules d cell) ≡ k
-      → outcome (read_with k (eqb k 0 && must_wait d cell)) [] ≡ read_of d cell
-  unfolding read_of given read_answer wait_at
-  read_made k true true p q e =
-      rw (p, q, lt-ltb cell 64 (cell_below (e ∙ eqb-true k 0 p)))
-      (call_carried_out (read_rules d cell) some_number d [] waits (waiting_desk d cell) [] (e ∙ eqb-true k 0 p))
-  read_made k true false p q e =
-      rw (p, q) (call_carried_out (read_rules d cell) some_number d [] (holds (content_at d.kind d.day cell)) d [] (e ∙ eqb-true k 0 p))
-  read_made k false u p q e =
-      rw p
-      (call_refused (read_rules d cell) d [] (cond (must_wait d cell) waits (holds (content_at d.kind d.day cell))) (cond (must_wait d cell) (waiting_desk d cell) d) [] k e (eqb-false k 0 p))
-
-  pub read_so :
-      {ok w : Bool} {number wait : ℕ} {c : Content} {a b : declared.Answer}
-      → a ≡ given number b → b ≡ read_answer w c → wait ≡ wait_at w d.head.wait cell → number ≡ first_number (read_tests ok d.head cell) → ok ≡ sound d
-      → w ≡ (eqb number 0 && waits_for d.head d.pkind cell) → c ≡ content_at d.kind d.day cell
-      → outcome (record { answer = a; desk = record { head = with_wait wait; kind = d.kind; day = d.day; pkind = d.pkind; pday = d.pday } }) [] ≡ read_of d cell
-  read_so {number = number} a b t n s w c =
-      rw (a, b, t, c, w, waits_are d cell) (read_made number (eqb number 0) (must_wait d cell) refl refl (sym (n ∙ rw s)))
-
-pub ruleset makings = (written, handed, open_fits, opened_so, read_so)
+      pub holds_so : must ≡ false → {c : Content} → c ≡ content_at d.kind d.day cell → settled (Ok (answers.Holds c)) d [] ≡ read_of d cell
+      unfolding read_of
+      holds_so t {c} shown =
+          rw (sym is ∙ t, shown) (done_so (read_rules d cell) d [] (holds (content_at d.kind d.day cell)) d [] (answers.Holds (content_at d.kind d.day cell)) refl silent)

@@ -11,8 +11,13 @@ use native.Mathlib.Omega.{arith}
 use native.Mathlib.Nat.{zero-add}
 use lib.IntN.{ℤ}
 use lib.ListN.{length, drop}
-use borrow.Author.Tests.{lt-ltb, le-ltb}
-use Rattle.answer.proofs.Laws.{again, apart}
+use lib.Dec.{ltb}
+use borrow.Author.Tests.{lt-ltb, le-ltb, ltb-true, ltb-false}
+use Rattle.std.specs.Prelude.{Result, Ok, Err}
+use Rattle.answer.specs.declared.Refusal.{Refusal}
+use Rattle.answer.specs.declared.Refusal.TheVariants as refusal
+use Rattle.answer.specs.Refusals.{refused_when}
+use Rattle.answer.proofs.Refusals.{said_apart, when_went_on, when_refused}
 use Rattle.cells.specs.Cells.{filled, count}
 use Rattle.laying.specs.Laying.{laid_over}
 use Rattle.laying.proofs.Laws.{laid, laid_behind}
@@ -21,9 +26,7 @@ use Rattle.layout.specs.declared.Entry.{Entry}
 use Rattle.layout.specs.declared.Trailer.{Trailer}
 use Rattle.layout.specs.Layout.{entries_bytes, trailer_bytes, trailer_for}
 use Rattle.layout.proofs.Laws.{entries_length, sheet_length}
-use Rattle.pending.specs.declared.Sent.{Sent}
-use Rattle.pending.specs.declared.Sent.TheVariants as sent
-use Rattle.pending.specs.Pending.{pending_entries, numbers_for, sheet_of, entries_sent, buffer_with, said_sent, Sends}
+use Rattle.pending.specs.Pending.{pending_entries, numbers_for, sheet_of, entries_sent, buffer_with, Sends}
 use Rattle.pending.specs.Promises.{SendingsApart}
 use Rattle.pending.proofs.Laws.Entries.{pending_length, pending_most}
 
@@ -40,12 +43,12 @@ module _ (h : Head) (pkind : List ℕ) (pday : List ℤ) where
   -- ---- by the room alone
 
   module _ (b : List ℕ) where
-    pub too_short : length b < length (sheet_of h pkind pday) → Sends h pkind pday b (sent.Refused 11) b
+    pub too_short : length b < length (sheet_of h pkind pday) → Sends h pkind pday b (Err refusal.BufferShort) b
     unfolding entries_sent buffer_with
     too_short less = record { answers = rw (lt-ltb _ _ less); buffer = rw (lt-ltb _ _ less) }
 
     pub sent_whole : length (sheet_of h pkind pday) ≤ length b
-        → Sends h pkind pday b (sent.Entries (length (pending_entries pkind pday))) (sheet_of h pkind pday ++ drop (length (sheet_of h pkind pday)) b)
+        → Sends h pkind pday b (Ok (length (pending_entries pkind pday))) (sheet_of h pkind pday ++ drop (length (sheet_of h pkind pday)) b)
     unfolding entries_sent buffer_with
     sent_whole room = record { answers = rw (le-ltb _ _ room); buffer = rw (le-ltb _ _ room) }
 
@@ -55,8 +58,13 @@ module _ (h : Head) (pkind : List ℕ) (pday : List ℤ) where
       many : length (pending_entries pkind pday) ≡ n
       many = pending_length pkind pday ∙ sym counted
 
-      pub send_short : length b < 6 * n + 12 → Sends h pkind pday b (sent.Refused 11) b
-      send_short less = too_short (omega (arith, sheet_long, many))
+      pub send_short : {r : Result ℕ Refusal} {x : Refusal} → Err x ≡ refused_when refusal.BufferShort (ltb (length b) (6 * n + 12)) → r ≡ Err x → Sends h pkind pday b r b
+      send_short test e =
+          let w = when_refused refusal.BufferShort (ltb (length b) (6 * n + 12)) _ test in
+          rw (e, w.1) (too_short (omega (arith, sheet_long, many, ltb-true (length b) (6 * n + 12) w.0)))
+
+      pub send_fits : {u : Unit {0}} → Ok u ≡ refused_when refusal.BufferShort (ltb (length b) (6 * n + 12)) → 6 * n + 12 ≤ length b
+      send_fits test = ltb-false (length b) (6 * n + 12) (when_went_on refusal.BufferShort (ltb (length b) (6 * n + 12)) _ test)
 
       module _ (room : 6 * n + 12 ≤ length b) where
         pub send_room : length (entries_bytes (pending_entries pkind pday)) ≤ length b
@@ -65,7 +73,7 @@ module _ (h : Head) (pkind : List ℕ) (pday : List ℤ) where
         pub send_whole : (b₁ : List ℕ) → b₁ ≡ laid_over b 0 (entries_bytes (pending_entries pkind pday))
             → (t : Trailer) → t ≡ trailer_for (numbers_for h n)
             → (b₂ : List ℕ) → b₂ ≡ laid_over b₁ (6 * n) (trailer_bytes t)
-            → Sends h pkind pday b (sent.Entries n) b₂
+            → Sends h pkind pday b (Ok n) b₂
         unfolding sheet_of
         send_whole b₁ e₁ t is b₂ e₂ =
             let es : List Entry = pending_entries pkind pday in
@@ -83,13 +91,9 @@ module _ (h : Head) (pkind : List ℕ) (pday : List ℤ) where
             in
             rw (← many, all) (sent_whole fits)
 
-pub ruleset sendings = (send_short, send_room, send_whole)
+pub ruleset sendings = (send_short, send_fits, send_room, send_whole)
 
 -- ---- the answer
 
-found : (a : Sent) → again sent.Refused sent.Entries (said_sent a) ≡ a
-found (sent.Entries n) = refl
-found (sent.Refused k) = refl
-
 pub said_sent_tells_apart : SendingsApart
-said_sent_tells_apart a b = apart said_sent (again sent.Refused sent.Entries) found
+said_sent_tells_apart a b = said_apart (λ n. n) (λ n. n) (λ n. refl) a b

@@ -1,11 +1,8 @@
--- `open` meets its contract: it is straight-line code, and `opened_so` says what it makes.
--- Assumes nothing.
-use borrow.Author.Rules.{rules}
-use Rattle.desk.proofs.Laws.Writes.{open_fits, makings}
+use Rattle.desk.proofs.Laws.Writes.{opened_so, open_refused}
 use Rattle.desk.proofs.Desk.open.Goals as goal
 
-pub opened_head-head-requires : goal.opened_head-head-requires
-opened_head-head-requires c = open_fits _ _ _ _ c.open_number-number.ensures
+pub returns-in-Ok : goal.returns-in-Ok
+returns-in-Ok c = rw c.blank.ensures (opened_so c.args.n c.args.m c.args.own c.args.mode c.in-Ok.ensures)
 
-pub returns : goal.returns
-returns c = search (makings, rules)
+pub returns-in-Err : goal.returns-in-Err
+returns-in-Err c = rw c.zeros.ensures (open_refused c.args.n c.args.m c.args.own c.args.mode _ c.in-Err.ensures)

@@ -1,0 +1,11 @@
+use borrow.Author.Rules.{rules}
+use Rattle.desk.proofs.Laws.Writes.{write_refused, stored_so}
+use Rattle.desk.proofs.Desk.store.Goals as goal
+
+pub returns-in_err-write : goal.returns-in_err-write
+returns-in_err-write c = write_refused c.args.self.now _ c.args.c c.is_sound.ensures c.kind-kind.ensures c.in_err-write.ensures (search rules)
+
+pub returns : goal.returns
+returns c =
+    stored_so c.args.self.now _ c.args.c c.is_sound.ensures c.kind-kind.ensures c.in_ok-write.ensures (search rules) c.put_kind.ensures c.put_day.ensures c.put_kind-2.ensures
+    c.put_day-2.ensures
