@@ -135,10 +135,7 @@ impl Desk {
     {
         let h = self.head;
         refusals::tray(self.is_sound(), h, tray.len())?;
-        let x = match sheet::read(sheet) {
-            sheet::Reading::Good(x) => x,
-            sheet::Reading::Refused(_) => return Err(Refusal::SheetNotGood),
-        };
+        let x = sheet::read(sheet)?;
         refusals::sheet(h, x, tray::is_free(tray, x.sender))?;
         tray::hold(tray, x.sender, sheet);
         Ok(Answer::Held)

@@ -8,19 +8,16 @@ use lib.IntN.{pos}
 use lib.ListN.{length, drop, replicate}
 use borrow.Author.Tests.{eqb-false}
 use Rattle.std.specs.Prelude.{Result, Ok, Err}
-use Rattle.answer.specs.Answer.{Rule, refused, answered, ◌if◌}
+use Rattle.answer.specs.Answer.{Answer, Rule, refused, answered, ◌if◌}
 use Rattle.answer.specs.Promises.{Silent, First, this, later}
 use Rattle.answer.specs.declared.Refusal.{Refusal}
-use Rattle.answer.specs.declared.Refusal.TheVariants as refusal
 use Rattle.answer.specs.Refusals.{number_of, first_of}
 use Rattle.answer.proofs.Laws.{refused_only_if, answered_only_if, changed_if, unchanged_if}
 use Rattle.layout.specs.declared.Numbers.{Numbers}
 use Rattle.layout.specs.Layout.{trailer_in, numbers_of}
-use Rattle.sheet.specs.declared.Reading.{Reading}
-use Rattle.sheet.specs.declared.Reading.TheVariants as reading
 use Rattle.sheet.specs.Good.{good}
 use Rattle.sheet.specs.Reading as sheets
-use Rattle.sheet.proofs.Laws.Reading.{said_good, said_bad}
+use Rattle.sheet.proofs.Laws.Reading.{bad_read, said_good, said_bad}
 use Rattle.sound.specs.declared.Head.{Head}
 use Rattle.tray.specs.Tray.{free, held_in}
 use Rattle.pending.specs.Pending.{pending_entries, sheet_of, room_rules, entries_sent, buffer_with, said_sent, Sends}
@@ -79,6 +76,9 @@ module _ (d : Desk) (buf : List ℕ) {ok : Bool} (s : ok ≡ sound d) where
 
 -- ---- deliver
 
+same_number : {j k : ℕ} → ◌≡◌ {A = Answer sheets.Sheet} (refused j) (refused k) → k ≡ j
+same_number e = cc
+
 module _ (d : Desk) (tray s : List ℕ) {ok : Bool} (is : ok ≡ sound d) where
   first_two : List Rule
   first_two = tray_tests (sound d) d.head (length tray)
@@ -104,16 +104,18 @@ module _ (d : Desk) (tray s : List ℕ) {ok : Bool} (is : ok ≡ sound d) where
     unfolding first_two
     silent_two = silent_if_said first_two (e ∙ rw is)
 
-    module _ (r : Reading) (reads : sheets.said_read s r ≡ sheets.reading_of s) where
-      pub deliver_bad : (k : ℕ) → r ≡ reading.Refused k → settled (Err refusal.SheetNotGood) d tray ≡ deliver_of d tray s
+    module _ (w : Result Numbers Refusal) (reads : sheets.said_read s w ≡ sheets.reading_of s) where
+      pub deliver_bad : {y : Refusal} → w ≡ Err y → {r : Result declared.Answer Refusal} → r ≡ Err y → settled r d tray ≡ deliver_of d tray s
       unfolding first_two of_sheet
-      deliver_bad k b =
-          let g : not (good s) ≡ true = rw (said_bad s r k b reads) in
-          refused_where {x = refusal.SheetNotGood} (first_of_rest first_two silent_two (this {rs = of_sheet} g refl)) refl
+      deliver_bad {y} b =
+          let bad : good s ≡ false = said_bad s w y b reads in
+          let thirteen : ◌≡◌ {A = Answer sheets.Sheet} (refused (number_of y)) (refused 13) = sym (ap (sheets.said_read s) b) ∙ reads ∙ bad_read s bad in
+          let g : not (good s) ≡ true = rw bad in
+          refused_where {x = y} (first_of_rest first_two silent_two (this {rs = of_sheet} g (same_number thirteen)))
 
-      module _ (x : Numbers) (g : r ≡ reading.Good x) {f : Bool} (fr : f ≡ free tray x.sender) where
+      module _ (x : Numbers) (g : w ≡ Ok x) {f : Bool} (fr : f ≡ free tray x.sender) where
         is_good : (good s ≡ true) × (x ≡ numbers_of (trailer_in s))
-        is_good = said_good s r x g reads
+        is_good = said_good s w x g reads
 
         good_so : not (good s) ≡ false
         good_so = rw is_good.0

@@ -64,7 +64,7 @@ module _ (h : Head) (pkind : List ℕ) (pday : List ℤ) where
           rw (e, w.1) (too_short (omega (arith, sheet_long, many, ltb-true (length b) (6 * n + 12) w.0)))
 
       pub send_fits : {u : Unit {0}} → Ok u ≡ refused_when refusal.BufferShort (ltb (length b) (6 * n + 12)) → 6 * n + 12 ≤ length b
-      send_fits test = ltb-false (length b) (6 * n + 12) (when_went_on refusal.BufferShort (ltb (length b) (6 * n + 12)) _ test)
+      send_fits test = ltb-false (length b) (6 * n + 12) (when_went_on refusal.BufferShort (ltb (length b) (6 * n + 12)) test)
 
       module _ (room : 6 * n + 12 ≤ length b) where
         pub send_room : length (entries_bytes (pending_entries pkind pday)) ≤ length b
