@@ -3,6 +3,7 @@
 // too, all by one statement: crates/edges.
 #![tactic(auto)]
 
+use answer::Refusal;
 use calendar::Date;
 use content::{Content, Standing};
 use desk::{Answer, Desk, Outcome};
@@ -199,8 +200,8 @@ fn read_back(rt: &impl Print, s: &[u8]) {
     }
 }
 
-// A desk's answer, as the program `rounds` prints it.
-fn say_answer(rt: &impl Print, a: Answer) {
+// What a desk's call answers, as the program `rounds` prints it.
+fn say_value(rt: &impl Print, a: Answer) {
     match a {
         Answer::Opened => say(rt, b"opened"),
         Answer::Stored => say(rt, b"stored"),
@@ -215,20 +216,21 @@ fn say_answer(rt: &impl Print, a: Answer) {
             turn,
             entries,
             applied,
+            waited,
         } => {
             say_taken(rt, turn, entries, applied);
-            say(rt, b"-");
+            match waited {
+                None => say(rt, b"-"),
+                Some(c) => say_content(rt, c),
+            }
         }
-        Answer::TakenAndRead {
-            turn,
-            entries,
-            applied,
-            content,
-        } => {
-            say_taken(rt, turn, entries, applied);
-            say_content(rt, content);
-        }
-        Answer::Refused(number) => say_refusal(rt, number),
+    }
+}
+
+fn say_answer(rt: &impl Print, answer: Result<Answer, Refusal>) {
+    match answer {
+        Ok(a) => say_value(rt, a),
+        Err(refusal) => say_refusal(rt, refusal.number()),
     }
 }
 
@@ -267,7 +269,7 @@ fn sends(rt: &impl Print, buf: &mut [u8], pending: &[u8], d: Desk) {
     let o = d.send(buf);
     let a = o.answer;
     say_answer(rt, a);
-    if let Answer::Sent { turn, entries } = a {
+    if let Ok(Answer::Sent { turn: _, entries }) = a {
         say(rt, b":\n ");
         say_first(rt, buf, 12 + 6 * (entries as usize));
     }

@@ -19,11 +19,9 @@ pub(crate) struct StepOutcome {
 fn of_call(o: Outcome) -> StepOutcome
     ensures { result ≡ of_outcome o }
 {
-    let a = o.answer;
-    let d = o.desk;
     StepOutcome {
-        answer: StepAnswer::OfCall(a),
-        desk: d,
+        answer: StepAnswer::OfCall(o.answer),
+        desk: o.desk,
     }
 }
 
@@ -41,8 +39,7 @@ fn send(d: Desk, p: u8, latest: &mut [u8]) -> StepOutcome
 {
     let mut sheet = sheet_room();
     let o = d.send(&mut sheet);
-    let a = o.answer;
-    let Answer::Sent { turn: _, entries } = a else {
+    let Ok(Answer::Sent { turn: _, entries }) = o.answer else {
         return of_call(o);
     };
     let len = 6 * (entries as usize) + 12;

@@ -9,8 +9,7 @@ use mathlib.Core.List.{List, [], ◌∷◌, ◌++◌}
 use native.Mathlib.Omega.{arith}
 use lib.ListN.{length, take, drop, replicate, length-append}
 use lib.Seq.{length-take-le}
-use types.Run.{OneOf, miss}
-use denote.Enum.Declared.{tag_of}
+use Rattle.std.specs.Prelude.{Ok}
 use mir.Syntax.{w8}
 use mir.Val.{Fits}
 use borrow.Author.Tests.{eq-eqb, ne_eqb}
@@ -23,7 +22,6 @@ use Rattle.desk.specs.declared.Desk.{Desk}
 use Rattle.desk.specs.declared.Outcome.{Outcome}
 use Rattle.desk.specs.declared.Answer as declared
 use Rattle.desk.specs.declared.Answer.TheVariants as cases
-use Rattle.desk.specs.contracts.Answer as answer
 use Rattle.desk.specs.Answers.{Value, sent, Done, said_answer, outcome}
 use Rattle.desk.specs.Calls.{write_of, read_of, send_rules, sent_desk, send_of, deliver_of, take_of}
 use Rattle.runs.specs.Run.{SentSheet, sheet_left}
@@ -60,48 +58,18 @@ sending_room d buf =
     (λ k first turn entries e. let apart : ◌≡◌ {A = ℕ} 0 1 = cc in absurd (omega arith))
     (λ silent turn entries e. let same : count ≡ entries = cc in omega arith)
 
--- the numbers of the answers that are no sheet's, as a `let .. else` tells them
-abbrev not_sent : List ℕ
-not_sent = 0 ∷ 1 ∷ 2 ∷ 3 ∷ 5 ∷ 6 ∷ 7 ∷ 8 ∷ []
-
-none_sent : (p : ℕ) (lent : List ℕ) (a : declared.Answer) → OneOf not_sent (tag_of answer.the_type a) → sheet_left p (said_answer a) lent ≡ []
-none_sent p lent cases.Opened other = refl
-none_sent p lent cases.Stored other = refl
-none_sent p lent (cases.Holds c) other = refl
-none_sent p lent cases.Waits other = refl
-none_sent p lent (cases.Sent turn entries) other = absurd (miss not_sent 4 tt other)
-none_sent p lent cases.Held other = refl
-none_sent p lent (cases.Taken turn entries applied) other = refl
-none_sent p lent (cases.TakenAndRead turn entries applied c) other = refl
-none_sent p lent (cases.Refused k) other = refl
-
 module _ (d : Desk) (room : List ℕ) (blank : room ≡ sheet_room) (o : Outcome) (lent : List ℕ) (gave : outcome o lent ≡ send_of d room) where
   is : outcome o lent ≡ send_of d sheet_room
   is = gave ∙ ap (send_of d) blank
 
-  module _ (turn entries : ℕ) (e : o.answer ≡ cases.Sent turn entries) where
+  module _ (turn entries : ℕ) {a : declared.Answer} (e : o.answer ≡ Ok a) (s : a ≡ cases.Sent turn entries) where
     pub sent_room : 6 * entries + 12 ≤ length lent
-    sent_room = subst (λ (x : Done). Room x.answer x.lent) (sym is) (sending_room d sheet_room) turn entries (ap said_answer e)
+    sent_room = subst (λ (x : Done). Room x.answer x.lent) (sym is) (sending_room d sheet_room) turn entries (ap said_answer (e ∙ ap Ok s))
 
     pub sent_part : 6 * entries + 12 ≡ length (take (6 * entries + 12) lent)
     sent_part = sym (length-take-le (6 * entries + 12) lent sent_room)
 
-  module _ (p : ℕ) (latest : List ℕ) (r : StepOutcome) (r_is : r ≡ of_outcome o) where
-    by_answer : (xs : List SentSheet) → sheet_left p (said_answer o.answer) lent ≡ xs → step_outcome r [] (latest_with latest p xs) ≡ step_by_send p (send_of d sheet_room) [] latest
-    by_answer xs e =
-        ap (λ (x : StepOutcome). step_outcome x [] (latest_with latest p xs)) r_is
-        ∙ ap (λ (l : List SentSheet). step_outcome (of_outcome o) [] (latest_with latest p l)) (sym e)
-        ∙ ap (λ (done : Done). step_by_send p done [] latest) is
-
-    pub send_none : OneOf not_sent (tag_of answer.the_type o.answer) → step_outcome r [] latest ≡ step_by_send p (send_of d sheet_room) [] latest
-    send_none other = by_answer [] (none_sent p lent o.answer other)
-
-    pub send_kept : (turn entries : ℕ) → o.answer ≡ cases.Sent turn entries → (after : List ℕ) → after ≡ held_in latest p (take (6 * entries + 12) lent) → step_outcome r [] after ≡ step_by_send p (send_of d sheet_room) [] latest
-    send_kept turn entries e after kept =
-        ap (step_outcome r []) kept
-        ∙ by_answer (record { from = p; bytes = take (6 * entries + 12) lent } ∷ []) (ap (λ (a : declared.Answer). sheet_left p (said_answer a) lent) e)
-
-pub ruleset sends = (sent_room, sent_part, send_none, send_kept)
+pub ruleset sends = (sent_room, sent_part)
 
 -- ---- deliver
 
