@@ -4,6 +4,6 @@ use Rattle.std.specs.Prelude.{ℕ, List, ◌++◌}
 use Rattle.text.specs.Text.{text}
 use Rattle.text.specs.Decimal.{decimal}
 
--- the part of `value_text` for a take up to what was waited for
+-- `value_text` for a take, up to what was waited for
 unfoldable pub taken_text : (turn entries applied : ℕ) → List ℕ
-taken_text turn entries applied = text "taken " ++ decimal turn ++ text " " ++ decimal entries ++ text " " ++ decimal applied
+taken_text turn entries applied = text "taken " ++ decimal turn ++ text " " ++ decimal entries ++ text " " ++ decimal applied ++ text " "

@@ -1,15 +1,16 @@
 // The words of a line. Each function requires room for the longest text that it may write: a number of
 // 32 bits has at most 10 digits, and one of 8 bits 3.
 ghost use Rattle.std.specs.Prelude.{◌≡◌, ◌++◌, ◌+◌, ◌≤◌, length};
-ghost use Rattle.desk.specs.Answers.{said_answer};
+ghost use Rattle.desk.specs.Answers.{waited_of, value_of, said_answer};
 ghost use Rattle.text.specs.Text.{text as text·bytes};
 ghost use Rattle.text.specs.Decimal.{signed_decimal};
 ghost use Rattle.printing.specs.StepAnswer.{said_step_answer};
-ghost use Rattle.printing.specs.Printing.{letter_text, content_text, answer_text, step_answer_text};
+ghost use Rattle.printing.specs.Printing.{letter_text, content_text, waited_text, value_text, answer_text, step_answer_text};
 ghost use Rattle.printing.specs.Parts.{taken_text};
 
 use crate::StepAnswer;
 use crate::line::Line;
+use answer::Refusal;
 use content::Content;
 use desk::Answer;
 
@@ -54,20 +55,21 @@ impl Line {
         }
     }
 
-    // "`taken` turn number, entries, entries applied"
-    fn taken(&mut self, turn: u32, entries: u8, applied: u8)
-        requires { length self.old + 24 ≤ 64 }
-        ensures text { self.new ≡ self.old ++ taken_text turn entries applied }
-        ensures few { length self.new ≤ length self.old + 24 }
+    // "waited-for content (as a read prints it) or `-`"
+    fn waited(&mut self, waited: Option<Content>)
+        requires { length self.old + 15 ≤ 64 }
+        ensures text { self.new ≡ self.old ++ waited_text (waited_of waited) }
+        ensures few { length self.new ≤ length self.old + 15 }
     {
-        self.number("taken ", turn);
-        self.number(" ", entries as u32);
-        self.number(" ", applied as u32);
+        match waited {
+            None => self.text("-"),
+            Some(c) => self.content(c),
+        }
     }
 
-    fn answer(&mut self, a: Answer)
+    fn value(&mut self, a: Answer)
         requires { length self.old + 40 ≤ 64 }
-        ensures text { self.new ≡ self.old ++ answer_text (said_answer a) }
+        ensures text { self.new ≡ self.old ++ value_text (value_of a) }
         ensures few { length self.new ≤ length self.old + 40 }
     {
         match a {
@@ -84,21 +86,35 @@ impl Line {
                 turn,
                 entries,
                 applied,
+                waited,
             } => {
                 self.taken(turn, entries, applied);
-                self.text(" -");
+                self.waited(waited);
             }
-            Answer::TakenAndRead {
-                turn,
-                entries,
-                applied,
-                content,
-            } => {
-                self.taken(turn, entries, applied);
-                self.text(" ");
-                self.content(content);
-            }
-            Answer::Refused(number) => self.number("refused ", number as u32),
+        }
+    }
+
+    // "`taken` turn number, entries, entries applied"
+    fn taken(&mut self, turn: u32, entries: u8, applied: u8)
+        requires { length self.old + 25 ≤ 64 }
+        ensures text { self.new ≡ self.old ++ taken_text turn entries applied }
+        ensures few { length self.new ≤ length self.old + 25 }
+    {
+        self.number("taken ", turn);
+        self.number(" ", entries as u32);
+        self.number(" ", applied as u32);
+        self.text(" ");
+    }
+
+    // "any refused call `refused` and its number"
+    fn answer(&mut self, answer: Result<Answer, Refusal>)
+        requires { length self.old + 40 ≤ 64 }
+        ensures text { self.new ≡ self.old ++ answer_text (said_answer answer) }
+        ensures few { length self.new ≤ length self.old + 40 }
+    {
+        match answer {
+            Ok(a) => self.value(a),
+            Err(refusal) => self.number("refused ", refusal.number() as u32),
         }
     }
 

@@ -8,6 +8,7 @@ ghost use Rattle.std.specs.Prelude.{◌≡◌, ◌+◌, ◌≤◌};
 ghost use Rattle.printing.specs.StepAnswer.{said_step_answer};
 ghost use Rattle.printing.specs.Printing.{wrote, line_text, header_text};
 
+use answer::Refusal;
 use desk::Answer;
 use line::Line;
 
@@ -17,7 +18,7 @@ mod line;
 // What a step comes to.
 #[derive(Clone, Copy)]
 pub enum StepAnswer {
-    OfCall(Answer),
+    OfCall(Result<Answer, Refusal>),
     // `d` before the sender has sent.
     NothingSent,
     BadLine,
