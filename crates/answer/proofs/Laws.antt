@@ -2,8 +2,6 @@
 --   answered_only_if, answered_if, changed_if      a call is carried out exactly if no rule applies
 --   refused_only_if, refused_if, unchanged_if      it is refused with k exactly if the first rule that applies has the number k, and
 --                                                  changes nothing then
---   silent_if_0, first_if_number, number_of_first, number_of_silent      what the number of the first rule that applies says
---   numbered_both, first_of_both, second_of_both, number_of_both      rules that are tested in two parts
 --   gives, gives_such, either_way                  whether the number that is given is such a number, as a test that computes on a list of rules: with
 --                                                  `simp` and what is known of some of them, wherever they stand in the list
 --   first_that_applies : EveryCallAnswers, refused_changes_nothing : RefusedChangesNothing (specs/Promises.antt)
@@ -11,15 +9,12 @@
 --   apart, again                                   answers have different meanings: shown by a function, mostly `again`, that finds the answer
 -- Assumes nothing.
 use mathlib.Core.Path.{◌≡◌, refl, sym, ap, ◌∙◌}
-use mathlib.Core.Bool.{Bool, true, false, cond, not}
-use mathlib.Core.List.{List, [], ◌∷◌, ◌++◌}
+use mathlib.Core.Bool.{Bool, true, false, cond}
+use mathlib.Core.List.{List, [], ◌∷◌}
 use Prim.Native.Nat.{ℕ}
 use native.Mathlib.Omega.{arith}
-use lib.Dec.{eqb}
-use borrow.Author.Tests.{eqb-true, eqb-false}
 use Rattle.answer.specs.Promises.{Silent, First, this, later, EveryCallAnswers, RefusedChangesNothing}
-use Rattle.answer.specs.Parts.{Numbered}
-use Rattle.answer.specs.Answer.{Answer, refused, answered, Rule, answer, leaves, first_number}
+use Rattle.answer.specs.Answer.{Answer, refused, answered, Rule, answer, leaves}
 
 pub refused_is_not_answered : {A : Type 0} (k : ℕ) (a : A) → refused k ≡ answered a → ⊥
 refused_is_not_answered k a e = let z : ◌≡◌ {A = ℕ} 0 1 = cc in omega arith
@@ -66,69 +61,6 @@ refused_if a (later p f) = rw p (refused_if a f)
 pub unchanged_if : {A : Type 0} {k : ℕ} {rs : List Rule} (before after : A) → First k rs → leaves rs before after ≡ before
 unchanged_if before after (this p n) = rw p
 unchanged_if before after (later p f) = rw p (unchanged_if before after f)
-
--- ---- by its number
-
-pub silent_if_0 : (rs : List Rule) → Numbered rs → first_number rs ≡ 0 → Silent rs
-unfolding first_number
-silent_if_0 [] some e = tt
-silent_if_0 (r ∷ rs) some e = by_test (silent_if_0 rs some.1) r.applies refl
-  where
-    by_test : (first_number rs ≡ 0 → Silent rs) → (t : Bool) → r.applies ≡ t → Silent (r ∷ rs)
-    by_test rest true p = let z : r.number ≡ 0 = sym (rw p) ∙ e in absurd (omega (arith, some.0, z))
-    by_test rest false p = (p, rest (sym (rw p) ∙ e))
-
-pub first_if_number : (rs : List Rule) (k : ℕ) → first_number rs ≡ k → (k ≡ 0 → ⊥) → First k rs
-unfolding first_number
-first_if_number [] k e h = absurd (h (sym e))
-first_if_number (r ∷ rs) k e h = by_test (first_if_number rs k) r.applies refl
-  where
-    by_test : (first_number rs ≡ k → (k ≡ 0 → ⊥) → First k rs) → (t : Bool) → r.applies ≡ t → First k (r ∷ rs)
-    by_test rest true p = let n : r.number ≡ k = sym (rw p) ∙ e in this p n
-    by_test rest false p = later p (rest (sym (rw p) ∙ e) h)
-
-pub number_of_silent : (rs : List Rule) → Silent rs → first_number rs ≡ 0
-unfolding first_number
-number_of_silent [] s = refl
-number_of_silent (r ∷ rs) s = rw s.0 (number_of_silent rs s.1)
-
-pub number_of_first : {k : ℕ} {rs : List Rule} → First k rs → first_number rs ≡ k
-unfolding first_number
-number_of_first (this p n) = rw p n
-number_of_first (later p f) = rw p (number_of_first f)
-
-pub first_is_some : {k : ℕ} {rs : List Rule} → Numbered rs → First k rs → k ≡ 0 → ⊥
-first_is_some some (this p n) e = let z = n ∙ e in omega (arith, some.0, z)
-first_is_some some (later p f) e = first_is_some some.1 f e
-
-pub numbered_both : (rs more : List Rule) → Numbered rs → Numbered more → Numbered (rs ++ more)
-numbered_both [] more some rest = rest
-numbered_both (r ∷ rs) more some rest = (some.0, numbered_both rs more some.1 rest)
-
--- rules that are tested in two parts: where one of the first applies, the rest do not count; where none does, they alone count
-pub first_of_both : (rs more : List Rule) (k : ℕ) → first_number rs ≡ k → (k ≡ 0 → ⊥) → first_number (rs ++ more) ≡ k
-unfolding first_number
-first_of_both [] more k e h = absurd (h (sym e))
-first_of_both (r ∷ rs) more k e h = by_test (first_of_both rs more k) r.applies refl
-  where
-    by_test : (first_number rs ≡ k → (k ≡ 0 → ⊥) → first_number (rs ++ more) ≡ k) → (t : Bool) → r.applies ≡ t → first_number ((r ∷ rs) ++ more) ≡ k
-    by_test rest true p = rw p (sym (rw p) ∙ e)
-    by_test rest false p = rw p (rest (sym (rw p) ∙ e) h)
-
-pub second_of_both : (rs more : List Rule) → Numbered rs → first_number rs ≡ 0 → first_number (rs ++ more) ≡ first_number more
-unfolding first_number
-second_of_both rs more some e = by_silence rs (silent_if_0 rs some e)
-  where
-    by_silence : (rs : List Rule) → Silent rs → first_number (rs ++ more) ≡ first_number more
-    by_silence [] s = refl
-    by_silence (r ∷ rs) s = rw s.0 (by_silence rs s.1)
-
-pub number_of_both : (rs more : List Rule) → Numbered rs → cond (not (eqb (first_number rs) 0)) (first_number rs) (first_number more) ≡ first_number (rs ++ more)
-number_of_both rs more some = by_test (eqb (first_number rs) 0) refl
-  where
-    by_test : (t : Bool) → eqb (first_number rs) 0 ≡ t → cond (not (eqb (first_number rs) 0)) (first_number rs) (first_number more) ≡ first_number (rs ++ more)
-    by_test true p = rw p (sym (second_of_both rs more some (eqb-true (first_number rs) 0 p)))
-    by_test false p = rw p (sym (first_of_both rs more (first_number rs) refl (eqb-false (first_number rs) 0 p)))
 
 -- ---- which number is given
 

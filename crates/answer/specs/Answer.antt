@@ -1,7 +1,7 @@
 -- 01, "Numbers given back": "Order within a call is left to right; the first that applies is given, and none otherwise. The answer is
 -- then that number alone, and the record and all lent bytes are as before."
--- What any call answers and leaves behind is stated by these, whatever enum the code has for its answer: each such enum has a definition
--- that begins with `said_answer` and gives its cases as an `Answer`.
+-- What any call answers and leaves behind is stated by these. The code answers a `Result` with a refusal of its own
+-- (specs/Refusals.antt): `said` gives it as an `Answer`, and so does a definition of each call, whose name begins with `said_`.
 -- Assumes nothing.
 use Rattle.std.specs.Prelude.{ℕ, Bool, true, false, cond, List, [], ◌∷◌}
 
@@ -33,8 +33,3 @@ answer (r ∷ rs) a = cond r.applies (refused r.number) (answer rs a)
 abbrev pub leaves : {A : Type 0} → List Rule → A → A → A
 leaves [] before after = after
 leaves (r ∷ rs) before after = cond r.applies before (leaves rs before after)
-
--- "the first that applies is given, and none otherwise": its number, or 0, which no rule has. Code finds it, one rule before the rest
-unfoldable pub first_number : List Rule → ℕ
-first_number [] = 0
-first_number (r ∷ rs) = cond r.applies r.number (first_number rs)

@@ -3,7 +3,7 @@
 // after the other by `?`.
 #![tactic(auto)]
 
-ghost use Rattle.std.specs.Prelude.{cond, ◌≡◌, Option, Some};
+ghost use Rattle.std.specs.Prelude.{◌≡◌, Option, Some};
 ghost use Rattle.answer.specs.Refusals.{number_of, refused_when, shown};
 
 use std::error::Error;
@@ -84,10 +84,3 @@ impl fmt::Display for Refusal {
 }
 
 impl Error for Refusal {}
-
-// One rule before the rest: its number where it applies, else what the rest give. 0 is no refusal.
-pub fn first(applies: bool, number: u8, rest: u8) -> u8
-    ensures { result ≡ cond applies number rest }
-{
-    if applies { number } else { rest }
-}
