@@ -89,6 +89,7 @@ impl Date {
 impl fmt::Display for Date {
     ghost output = { λ t. Some (shown t) };
 
+    #[tactic(auto, using(crate::proofs::Shown::wide_lem))]
     fn fmt<W: fmt::Write>(&self, f: &mut fmt::Formatter<W>) -> fmt::Result {
         write!(f, "{:04}-{:02}-{:02}", self.year, self.month, self.day)
     }

@@ -13,6 +13,7 @@ const LENGTHS: [u8; 12] = [31, 28, 31, 30, 31, 30, 31, 31, 30, 31, 30, 31];
 // The days before each month of such a year, and those of the year.
 const BEFORE: [u16; 13] = [0, 31, 59, 90, 120, 151, 181, 212, 243, 273, 304, 334, 365];
 
+#[tactic(auto, using(crate::proofs::Laws::Month::length_by_table))]
 pub(crate) fn length_of(year: u16, m: u8) -> u8
     requires { m < 12 }
     ensures { result ≡ month_length year m }
@@ -20,6 +21,7 @@ pub(crate) fn length_of(year: u16, m: u8) -> u8
     LENGTHS[m as usize] + u8::from(is_leap(year) & (m == 1))
 }
 
+#[tactic(auto, using(crate::proofs::Laws::Month::before_by_table))]
 pub(crate) fn days_before_month(year: u16, m: u8) -> u16
     requires { m ≤ 12 }
     ensures { result ≡ before (month_length year) m }
@@ -29,7 +31,7 @@ pub(crate) fn days_before_month(year: u16, m: u8) -> u16
 
 // The month of day j of the year. Months of 32 days each would begin no earlier than the true ones,
 // and at most 32 days later: so it is month j / 32 or the next.
-#[tactic(auto, using(crate::proofs::Laws::Month::month_guessed, crate::proofs::Laws::Month::month_after_guess))]
+#[tactic(auto, using(crate::proofs::Laws::Month::year_short, crate::proofs::Laws::Month::month_guessed, crate::proofs::Laws::Month::month_after_guess))]
 pub(crate) fn month_of(year: u16, j: u16) -> u8
     requires { j < before (month_length year) 12 }
     ensures { result ≡ span_of (month_length year) 11 j }

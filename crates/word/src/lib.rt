@@ -87,7 +87,7 @@ pub fn answer(
 pub fn ended(rt: &(impl Env + Files), refused: bool) -> u8
     ensures { result ≡ digit_of refused }
 {
-    let d = digit(refused);
+    let d = b'0' + u8::from(refused);
     let line = [d, b'\n'];
     if is_there(rt.arg(1, &mut [])) & hears_ending(rt) {
         let _ = say_ending(rt, &line);
@@ -137,12 +137,6 @@ pub fn name_of<'a>(rt: &impl Eprint, argument: &'a [u8]) -> Option<&'a str>
             None
         }
     }
-}
-
-fn digit(refused: bool) -> u8
-    ensures { result ≡ digit_of refused }
-{
-    b'0' + u8::from(refused)
 }
 
 // Whether descriptor 3 is open, and for writing: its name has the permissions that it was opened

@@ -1,7 +1,8 @@
 -- Laws of a year's months, leap years and others alike (`length_in`, specs/Calendar.antt): one test of every month over both tables of the
 -- code, which antt computes, and what follows from it at each.
 --   month                                of month m: its length and the days before it by the tables, and bounds on both
---   counted                              a test as a number, as the code adds it
+--   length_by_table, before_by_table     the same as the code adds it
+--   year_short                           so that a day's number by 32 is a month's
 --   month_guessed, month_after_guess     so the month of day j is j / 32, or the next if that one begins by then
 -- Assumes nothing.
 use mathlib.Core.Path.{◌≡◌, refl, subst}
@@ -72,15 +73,25 @@ pub month : (l : Bool) (m : ℕ) → m ≤ 12 → Month l m
 unfolding right
 month l m h = search (at (right l) 13 (all_right l) m (omega arith), tested) depth 8
 
-pub counted : (b : Bool) → bool_byte b ≡ cond b 1 0
+-- a test as a number, as the code adds it
+counted : (b : Bool) → bool_byte b ≡ cond b 1 0
 counted true = refl
 counted false = refl
 
+pub length_by_table : (l : Bool) (m : ℕ) → m ≤ 12 → length_in l m ≡ get_or lengths m 0 + bool_byte (l && eqb m 1)
+length_by_table l m h = rw ((month l m h).lasts, counted (l && eqb m 1))
+
+pub before_by_table : (l : Bool) (m : ℕ) → m ≤ 12 → before (length_in l) m ≡ get_or days_before m 0 + bool_byte (l && leb 2 m)
+before_by_table l m h = rw ((month l m h).begins, counted (l && leb 2 m))
+
 -- ---- the inverse: the month of a day
 
+pub year_short : (l : Bool) → before (length_in l) 12 ≤ 32 * 12
+year_short l = (month l 12 (omega arith)).by
+
 module _ (l : Bool) (j : ℕ) (h : j < before (length_in l) 12) where
-  pub guess_small : j / 32 ≤ 11
-  guess_small = omega (arith, (month l 12 (omega arith)).by)
+  guess_small : j / 32 ≤ 11
+  guess_small = omega (arith, year_short l)
 
   pub month_guessed : j < before (length_in l) (j / 32 + 1) → span_of (length_in l) 11 j ≡ j / 32
   month_guessed e =
