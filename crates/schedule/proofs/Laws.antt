@@ -1,5 +1,4 @@
 pub mod Words
-pub mod Contents
-pub mod Lines
-pub mod Start
+pub mod Answers
 pub mod Reading
+pub mod Lines

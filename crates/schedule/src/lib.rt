@@ -1,8 +1,8 @@
 // What a schedule's lines say: how many there are, what the first says of the shelf, and what step a
 // line is. 01, "The program `rounds`".
 //
-// Every public function takes every text. The definitions speak of a line's words; the code reads each
-// word where it lies.
+// Every public function takes every text. The definitions speak of a line's words, and so does the
+// code: each is cut off the line where it lies.
 #![tactic(auto)]
 
 ghost use Rattle.std.specs.Prelude.{◌≡◌, length};
@@ -45,50 +45,37 @@ pub struct Step {
 pub fn lines_in(input: &[u8]) -> usize
     ensures { result ≡ length (lines_of input.now) }
 {
-    let mut count = 0;
-    let mut cut = 0;
-    let mut i = 0;
-    while i < input.len() {
-        let b = input[i];
-        count += (b == b'\n') as usize;
-        cut = (b != b'\n') as usize;
-        i += 1;
-    }
-    count + cut
+    let ended = input.iter().filter(|b| **b == b'\n').count();
+    let cut = input.last().is_some_and(|b| *b != b'\n');
+    ended + usize::from(cut)
 }
 
 // What a line, without its line feed, says as the first; nothing, where it says no shelf.
+#[tactic(auto, using(crate::proofs::Laws::Reading::starts_read))]
 pub fn start_in(line: &[u8]) -> Option<Shelf>
     ensures { said_start result ≡ start_in (ended line.now) }
 {
-    let n = words::number_at(line, 0);
-    let m = words::number_at(line, n.end + 1);
-    let letter = words::letter_at(line, m.end + 1);
-    let mode = words::mode_of(letter.byte);
-    let three = (n.end < line.len()) & (m.end < line.len()) & (line.len() <= letter.end);
-    if three & (n.ok & m.ok & (mode < 4)) {
-        return Some(Shelf {
-            n: n.value,
-            m: m.value,
-            mode,
-        });
-    }
-    None
+    let (n, rest) = words::cut(line)?;
+    let (m, mode) = words::cut(rest)?;
+    Some(Shelf {
+        n: words::number(n)?,
+        m: words::number(m)?,
+        mode: words::mode(mode)?,
+    })
 }
 
 // What a line, without its line feed, says as a step, on a shelf of n desks; nothing, where it is bad.
+#[tactic(auto, using(crate::proofs::Laws::Reading::steps_read))]
 pub fn step_in(line: &[u8], n: u32) -> Option<Step>
     ensures { said_step result ≡ step_in n (ended line.now) }
 {
-    let first = words::letter_at(line, 0);
-    let letter = first.byte;
-    let from = first.end + 1;
+    let (letter, rest) = words::cut(line)?;
     match letter {
-        b'w' => steps::write_in(line, from, n),
-        b'r' => steps::read_in(line, from, n),
-        b's' => steps::desk_in(line, from, n, Act::Send),
-        b'd' => steps::deliver_in(line, from, n),
-        b't' => steps::desk_in(line, from, n, Act::Take),
+        b"w" => steps::write_in(rest, n),
+        b"r" => steps::read_in(rest, n),
+        b"s" => steps::desk_in(rest, n, Act::Send),
+        b"d" => steps::deliver_in(rest, n),
+        b"t" => steps::desk_in(rest, n, Act::Take),
         _ => None,
     }
 }

@@ -1,157 +1,64 @@
-// The words of a line, each read where it starts.
-ghost use Rattle.std.specs.Prelude.{◌≡◌, ◌+◌, ◌≤◌, length, get_or};
-ghost use Rattle.schedule.specs.Parts.{number_at, letter_at, mode_of, open_at, below_of, not_below_of, content_word_at};
+// The words of a line.
+ghost use Rattle.std.specs.Prelude.{◌≡◌, ◌∷◌, [], MatchOption};
+ghost use Rattle.schedule.specs.Words.{words};
+ghost use Rattle.schedule.specs.Parts.{number, desk_of, mode, day, content};
 
 use content::Content;
-use text::Decimal;
 
-// A word that should be a number of 32 bits: whether it is, its value, and where it ends.
-#[derive(Clone, Copy)]
-pub(crate) struct Number {
-    pub(crate) ok: bool,
-    pub(crate) value: u32,
-    pub(crate) end: usize,
-}
-
-// A word that should be a letter: its byte, 0 where it is not of one byte, and where it ends.
-#[derive(Clone, Copy)]
-pub(crate) struct Letter {
-    pub(crate) byte: u8,
-    pub(crate) end: usize,
-}
-
-// A word that should be a day or `open`: whether it is, what it says, and where it ends.
-#[derive(Clone, Copy)]
-pub(crate) struct Given {
-    pub(crate) ok: bool,
-    pub(crate) content: Content,
-    pub(crate) end: usize,
-}
-
-pub(crate) fn number_at(line: &[u8], from: usize) -> Number
-    ensures { result ≡ number_at line.now from }
+// A line, cut at its first space: the word before it, and what stands behind; nothing, where it has
+// none.
+pub(crate) fn cut(line: &[u8]) -> Option<(&[u8], &[u8])>
+    ensures { MatchOption result (words line.now ≡ line.now ∷ []) (λ c. words line.now ≡ c.0.now ∷ words c.1.now) }
 {
-    let d = text::decimal_at(line, from, b' ');
-    if d.ok & (d.value <= 4294967295) {
-        return Number {
-            ok: true,
-            value: d.value as u32,
-            end: d.end,
-        };
-    }
-    Number {
-        ok: false,
-        value: 0,
-        end: d.end,
+    let end = line.iter().position(|b| *b == b' ')?;
+    Some((&line[..end], &line[end + 1..]))
+}
+
+// A number of 32 bits.
+#[tactic(auto, using(crate::proofs::Laws::Answers::numbers_read))]
+pub(crate) fn number(word: &[u8]) -> Option<u32>
+    ensures { result ≡ number word.now }
+{
+    u32::try_from(text::decimal_in(word)?).ok()
+}
+
+// A desk that is there, of n.
+pub(crate) fn desk_of(word: &[u8], n: u32) -> Option<u32>
+    ensures { result ≡ desk_of n word.now }
+{
+    number(word).filter(|p| *p < n)
+}
+
+// The mode of a mode letter.
+#[tactic(auto, using(crate::proofs::Laws::Answers::modes))]
+pub(crate) fn mode(word: &[u8]) -> Option<u32>
+    ensures { result ≡ mode word.now }
+{
+    match word {
+        b"s" => Some(1),
+        b"c" => Some(2),
+        b"k" => Some(3),
+        b"-" => Some(0),
+        _ => None,
     }
 }
 
-pub(crate) fn letter_at(line: &[u8], from: usize) -> Letter
-    ensures { result ≡ letter_at line.now from }
+// "a minus only before a day below 0"
+fn day(word: &[u8]) -> Option<i32>
+    ensures { result ≡ day word.now }
 {
-    let end = text::part_end(line, from, b' ');
-    if end - from == 1 {
-        return Letter {
-            byte: line[from],
-            end: end,
-        };
+    match word.strip_prefix(b"-") {
+        Some(below) => 0i32.checked_sub_unsigned(number(below).filter(|k| *k != 0)?),
+        None => i32::try_from(number(word)?).ok(),
     }
-    Letter { byte: 0, end: end }
-}
-
-// The mode of a mode letter; 4 where it is none.
-pub(crate) fn mode_of(letter: u8) -> u32
-    ensures { result ≡ mode_of letter }
-{
-    match letter {
-        b's' => 1,
-        b'c' => 2,
-        b'k' => 3,
-        b'-' => 0,
-        _ => 4,
-    }
-}
-
-// A word that begins with an o: no day does.
-fn open_at(line: &[u8], from: usize) -> Given
-    ensures { result ≡ open_at line.now from }
-{
-    let end = text::part_end(line, from, b' ');
-    if end - from == 4 {
-        if (line[from] == b'o')
-            & (line[from + 1] == b'p')
-            & (line[from + 2] == b'e')
-            & (line[from + 3] == b'n')
-        {
-            return Given {
-                ok: true,
-                content: Content::Open,
-                end: end,
-            };
-        }
-    }
-    Given {
-        ok: false,
-        content: Content::Blank,
-        end: end,
-    }
-}
-
-// A day below 0, of the number behind its minus: the two's complement of it.
-fn below(d: Decimal) -> Given
-    ensures { result ≡ below_of d }
-{
-    if d.ok & ((1 <= d.value) & (d.value <= 2147483648)) {
-        let pattern = 4294967296 - d.value;
-        return Given {
-            ok: true,
-            content: Content::Day(numbers::signed(pattern as u32)),
-            end: d.end,
-        };
-    }
-    Given {
-        ok: false,
-        content: Content::Blank,
-        end: d.end,
-    }
-}
-
-fn not_below(d: Decimal) -> Given
-    ensures { result ≡ not_below_of d }
-{
-    if d.ok & (d.value <= 2147483647) {
-        return Given {
-            ok: true,
-            content: Content::Day(numbers::signed(d.value as u32)),
-            end: d.end,
-        };
-    }
-    Given {
-        ok: false,
-        content: Content::Blank,
-        end: d.end,
-    }
-}
-
-// The byte at a place, and 0 past the end.
-fn byte_at(line: &[u8], at: usize) -> u8
-    ensures { result ≡ get_or line.now at 0 }
-{
-    if at < line.len() {
-        return line[at];
-    }
-    0
 }
 
 // "day-or-`open`"
-pub(crate) fn content_at(line: &[u8], from: usize) -> Given
-    requires { from ≤ length line.now + 3 }
-    ensures { result ≡ content_word_at line.now from }
+pub(crate) fn content(word: &[u8]) -> Option<Content>
+    ensures { result ≡ content word.now }
 {
-    let first = byte_at(line, from);
-    match first {
-        b'o' => open_at(line, from),
-        b'-' => below(text::decimal_at(line, from + 1, b' ')),
-        _ => not_below(text::decimal_at(line, from, b' ')),
+    if word == b"open".as_slice() {
+        return Some(Content::Open);
     }
+    day(word).map(Content::Day)
 }

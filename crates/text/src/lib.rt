@@ -1,91 +1,56 @@
 // A text in bytes: where its parts end, and numbers in decimal, read and printed. 01, "The program
 // `rounds`": "Single spaces, decimal without leading zeros".
 //
-// Every public function takes every text and every place in it, also one past the end, where there is
-// nothing.
+// Every public function takes every text, and `part_end` every place in it, also one past the end,
+// where there is nothing.
 #![tactic(auto)]
 
-ghost use Rattle.std.specs.Prelude.{◌≡◌, ◌+◌, ◌*◌, ◌-◌, ◌≤◌, ◌<◌, min, length, take, drop};
+ghost use Rattle.std.specs.Prelude.{◌≡◌, ◌+◌, ◌-◌, ◌≤◌, true, false, length, drop, MatchOption};
 ghost use Rattle.text.specs.Separated.{first_part};
-ghost use Rattle.text.specs.Decimal.{no_leading_zero, decimal_at};
+ghost use Rattle.text.specs.Decimal.{is_digit, no_leading_zero, decimal_in};
 
 mod printed;
 
 pub use printed::put_decimal;
 
-// A word that should be a number: whether it is decimal without leading zeros, its value, which is
-// 4,294,967,296 for every number beyond 32 bits, and where the word ends.
-#[derive(Clone, Copy)]
-pub struct Decimal {
-    pub ok: bool,
-    pub value: u64,
-    pub end: usize,
-}
-
 // Where the part ends that starts at `from`: at the next separator, or where the text ends.
 pub fn part_end(s: &[u8], from: usize, sep: u8) -> usize
     ensures { result ≡ from + length (first_part sep (drop from s.now)) }
 {
-    let mut i = from;
-    while i < s.len() {
-        if s[i] == sep {
-            return i;
-        }
-        i += 1;
-    }
-    i
+    let Some(rest) = s.get(from..) else {
+        return from;
+    };
+    from + rest.iter().position(|b| *b == sep).unwrap_or(rest.len())
 }
 
-// A digit's number; of a byte that is no digit, something below 256.
-fn digit(b: u8) -> u64
-    ensures { (result ≡ b - 48) × (result < 256) }
+fn digit(b: u8) -> Option<u64>
+    ensures { MatchOption result (is_digit b ≡ false) (λ d. (is_digit b ≡ true) × (d ≡ b - 48) × (d ≤ 9)) }
 {
-    if b < 48 {
-        return 0;
+    match b {
+        b'0'..=b'9' => Some(u64::from(b - b'0')),
+        _ => None,
     }
-    (b - 48) as u64
-}
-
-// The value with a digit more, or 4,294,967,296 where that is beyond 32 bits.
-fn more(value: u64, d: u64) -> u64
-    requires { (value ≤ 4294967296) × (d < 256) }
-    ensures { result ≡ min (10 * value + d) 4294967296 }
-{
-    let next = 10 * value + d;
-    if 4294967296 < next {
-        return 4294967296;
-    }
-    next
 }
 
 // Whether a word has bytes, and its first is a 0 only if it is the only one.
-fn no_leading_zero(s: &[u8], from: usize, end: usize) -> bool
-    requires { end - from ≤ length s.now - from }
-    ensures { result ≡ no_leading_zero (take (end - from) (drop from s.now)) }
+fn no_leading_zero(word: &[u8]) -> bool
+    ensures { result ≡ no_leading_zero word.now }
 {
-    if end <= from {
-        return false;
-    }
-    (s[from] != 48) | (end - from == 1)
+    !matches!(word, [] | [b'0', _, ..])
 }
 
-// The word that stands from `from` on, up to the next separator.
-pub fn decimal_at(s: &[u8], from: usize, sep: u8) -> Decimal
-    ensures { result ≡ decimal_at sep s.now from }
+// The number that a word is, if it is decimal without leading zeros: 4,294,967,296 for every number
+// beyond 32 bits.
+#[tactic(auto, using(crate::proofs::Laws::Decimal::decimal_loop))]
+pub fn decimal_in(word: &[u8]) -> Option<u64>
+    ensures { result ≡ decimal_in word.now }
 {
-    let end = part_end(s, from, sep);
-    let mut ok = no_leading_zero(s, from, end);
+    if !no_leading_zero(word) {
+        return None;
+    }
     let mut value = 0;
-    let mut i = from;
-    while i < end {
-        let b = s[i];
-        ok = ok & (48 <= b) & (b <= 57);
-        value = more(value, digit(b));
-        i += 1;
+    for b in word {
+        value = (10 * value + digit(*b)?).min(4294967296);
     }
-    Decimal {
-        ok: ok,
-        value: value,
-        end: end,
-    }
+    Some(value)
 }

@@ -1,21 +1,24 @@
 -- Laws of `lines_of` (specs/Lines.antt).
 --   no_lines, line_taken, line_ended, line_cut         the lines from a place on, one by one: what a walk from line to line cites
---   LinesSoFar, lines_counted                          the loop of `lines_in`, and its laws as a set for `search`
+--   lines_counted, tested_last                         as many as there are line feeds, and one more if the last byte is none
 -- Assumes nothing.
+use Rattle.std.proofs.Common as std
+use Rattle.std.proofs.Common.{None, Some, Bor}
+use Rattle.std.specs.List.{count_by, slice_get}
+use Rattle.std.specs.Option.{MatchOption, option_copied}
+use Rattle.std.proofs.lemmas.List.Sums.{sum_by-cons}
 use mathlib.Core.Path.{◌≡◌, refl, sym, ap, ◌∙◌}
 use mathlib.Core.List.{List, [], ◌∷◌}
 use mathlib.Core.Bool.{Bool, true, false, cond, not}
-use Prim.Native.Nat.{ℕ, suc, ◌+◌, ◌-◌, ◌<◌, ◌≤◌, ◌^◌}
+use Prim.Native.Nat.{ℕ, suc, ◌+◌, ◌-◌, ◌<◌, ◌≤◌}
 use native.Mathlib.Omega.{arith}
-use native.Mathlib.Numerals.{add-one, one-add}
 use lib.Dec.{eqb}
-use lib.ListN.{length, get_or, take, drop, length-drop, drop_of_length-le}
+use lib.ListN.{length, get_or, take, drop, length-drop}
 use lib.Seq.{drop-cons, take_all}
 use borrow.Author.Tests.{lt-ltb, le-ltb}
-use mir.Syntax.{w64}
-use mir.Val.{Fits, bool_byte}
+use mir.Val.{bool_byte}
 use Rattle.text.specs.Separated.{parts, first_part, onto_first, line_feed}
-use Rattle.text.proofs.Laws.Parts.{parts_on, part_taken}
+use Rattle.text.proofs.Laws.Parts.{parts_split, parts_on, part_taken}
 use Rattle.schedule.specs.Lines.{ended, cut, last_line, lines_in, lines_of}
 
 -- ---- one by one
@@ -64,72 +67,64 @@ module _ (input : List ℕ) (from : ℕ) where
 
 -- ---- how many
 
--- the lines of a rest: behind a line feed (0), or within a line (1), which counts though no line feed ends it
-abbrev left : ℕ → List ℕ → ℕ
-left open_line [] = open_line
-left open_line (b ∷ bs) = bool_byte (eqb b line_feed) + left (bool_byte (not (eqb b line_feed))) bs
+abbrev is_feed : ℕ → Bool
+is_feed b = eqb b line_feed
 
--- the count from a line's beginning, and from within a line
-abbrev Counted : List ℕ → Type 0
-Counted s = (length (lines_in (parts line_feed s)) ≡ left 0 s) × ((b : ℕ) → length (lines_in (onto_first b (parts line_feed s))) ≡ left 1 s)
+-- the text has a last byte, and that ends no line
+abbrev pub ends_cut : List ℕ → Bool
+ends_cut [] = false
+ends_cut (b ∷ []) = not (is_feed b)
+ends_cut (b ∷ c ∷ bs) = ends_cut (c ∷ bs)
 
-within_one : (b c : ℕ) (p : List ℕ) (ps : List (List ℕ)) → length (lines_in ((b ∷ c ∷ p) ∷ ps)) ≡ length (lines_in ((c ∷ p) ∷ ps))
-within_one b c p [] = refl
-within_one b c p (q ∷ qs) = refl
-
-one_more : (c : ℕ) (cs p : List ℕ) (ps : List (List ℕ)) → parts line_feed cs ≡ p ∷ ps → Counted cs → (t : Bool)
-    → (length (lines_in (cond t ([] ∷ parts line_feed cs) (onto_first c (parts line_feed cs)))) ≡ bool_byte t + left (bool_byte (not t)) cs)
-    × ((b : ℕ) → length (lines_in (onto_first b (cond t ([] ∷ parts line_feed cs) (onto_first c (parts line_feed cs))))) ≡ bool_byte t + left (bool_byte (not t)) cs)
-one_more c cs p ps is so true = (behind [], λ b. behind (b ∷ []))
-  where
-    behind : (q : List ℕ) → length (lines_in (q ∷ parts line_feed cs)) ≡ 1 + left 0 cs
-    behind q =
-        ap (λ (l : List (List ℕ)). length (lines_in (q ∷ l))) is
-        ∙ ap (λ (l : List (List ℕ)). suc (length (lines_in l))) (sym is)
-        ∙ ap suc so.0
-        ∙ sym (one-add (left 0 cs))
-one_more c cs p ps is so false = (omega (arith, so.1 c), λ b. omega (arith, again b, so.1 c))
-  where
-    again : (b : ℕ) → length (lines_in (onto_first b (onto_first c (parts line_feed cs)))) ≡ length (lines_in (onto_first c (parts line_feed cs)))
-    again b =
-        ap (λ (l : List (List ℕ)). length (lines_in (onto_first b (onto_first c l)))) is
-        ∙ within_one b c p ps
-        ∙ ap (λ (l : List (List ℕ)). length (lines_in (onto_first c l))) (sym is)
-
-counted : (s : List ℕ) → Counted s
+-- a byte in front of a line that has some makes no line more
+onto_line : (b c : ℕ) (cs : List ℕ) → length (lines_in (onto_first b (parts line_feed (c ∷ cs)))) ≡ length (lines_in (parts line_feed (c ∷ cs)))
 unfolding parts
-counted [] = (refl, λ b. refl)
-counted (c ∷ cs) = one_more c cs _ _ (parts_on line_feed cs 0) (counted cs) (eqb c line_feed)
+onto_line b c cs = by_test (is_feed c) (parts line_feed cs) (parts_split line_feed cs)
+  where
+    by_test : (t : Bool) (ps : List (List ℕ)) {p : List ℕ} {qs : List (List ℕ)} → ps ≡ p ∷ qs
+        → length (lines_in (onto_first b (cond t ([] ∷ ps) (onto_first c ps)))) ≡ length (lines_in (cond t ([] ∷ ps) (onto_first c ps)))
+    by_test true [] e = absurd (cc)
+    by_test true (p ∷ ps) e = refl
+    by_test false [] e = absurd (cc)
+    by_test false (p ∷ []) e = refl
+    by_test false (p ∷ q ∷ ps) e = refl
 
--- the lines that ended, and whether the line that the loop stands in has begun
-pub record LinesSoFar (s : List ℕ) (count begun i : ℕ) : Type 0 where
-  pub within_s : i ≤ length s
-  pub few : count + begun ≤ i
-  pub whole : length (lines_of s) ≡ count + left begun (drop i s)
+pub lines_counted : (s : List ℕ) → length (lines_of s) ≡ count_by is_feed s + bool_byte (ends_cut s)
+unfolding lines_of parts
+lines_counted [] = refl
+lines_counted (b ∷ []) = by_test (is_feed b)
+  where
+    by_test : (t : Bool) → length (lines_in (cond t ([] ∷ [] ∷ []) ((b ∷ []) ∷ []))) ≡ (0 + cond t 1 0) + bool_byte (not t)
+    by_test true = refl
+    by_test false = refl
+lines_counted (b ∷ c ∷ cs) = by_test (is_feed b) refl (parts line_feed (c ∷ cs)) (parts_split line_feed (c ∷ cs)) (onto_line b c cs) (lines_counted (c ∷ cs)) (sum_by-cons (λ x. cond (is_feed x) 1 0) b (c ∷ cs))
+  where
+    by_test : (t : Bool) → is_feed b ≡ t → (ps : List (List ℕ)) {p : List ℕ} {qs : List (List ℕ)} → ps ≡ p ∷ qs → length (lines_in (onto_first b ps)) ≡ length (lines_in ps)
+        → length (lines_in ps) ≡ count_by is_feed (c ∷ cs) + bool_byte (ends_cut (c ∷ cs))
+        → count_by is_feed (b ∷ c ∷ cs) ≡ cond (is_feed b) 1 0 + count_by is_feed (c ∷ cs)
+        → length (lines_in (cond t ([] ∷ ps) (onto_first b ps))) ≡ count_by is_feed (b ∷ c ∷ cs) + bool_byte (ends_cut (c ∷ cs))
+    by_test true is [] e same so more = absurd (cc)
+    by_test true is (p ∷ ps) e same so more = omega (arith, so, more, ap (λ (t : Bool). cond {A = ℕ} t 1 0) is)
+    by_test false is ps e same so more = omega (arith, same, so, more, ap (λ (t : Bool). cond {A = ℕ} t 1 0) is)
 
-module _ (s : List ℕ) where
-  pub lines_begun : LinesSoFar s 0 0 0
-  unfolding lines_of
-  lines_begun = record { within_s = omega arith; few = omega arith; whole = omega (arith, (counted s).0) }
+-- the last byte, and what the code's test makes of it
+module _ (b c : ℕ) (bs : List ℕ) where
+  behind_first : slice_get (b ∷ c ∷ bs) (length (b ∷ c ∷ bs) - 1) ≡ slice_get (c ∷ bs) (length (c ∷ bs) - 1)
+  behind_first =
+      let one_less : suc (suc (length bs)) - 1 ≡ suc (suc (length bs) - 1) = omega arith in
+      ap (slice_get (b ∷ c ∷ bs)) one_less
 
-  module _ (count begun i : ℕ) (so : LinesSoFar s count begun i) where
-    pub count_fits : i < length s → length s < 2 ^ 64 → (t : Bool) → Fits w64 (count + bool_byte t)
-    count_fits h l true = record { fits = omega (arith, so.few) }
-    count_fits h l false = record { fits = omega (arith, so.few) }
+no_last : (s : List ℕ) → None ≡ slice_get s (length s - 1) → false ≡ ends_cut s
+no_last [] e = refl
+no_last (b ∷ []) e = absurd (cc)
+no_last (b ∷ c ∷ bs) e = no_last (c ∷ bs) (e ∙ behind_first b c bs)
 
-    pub lines_turned : i < length s → LinesSoFar s (count + bool_byte (eqb (get_or s i 0) 10)) (bool_byte (not (eqb (get_or s i 0) 10))) (i + 1)
-    lines_turned h =
-        record {
-          within_s = omega arith;
-          few = either (eqb (get_or s i 0) 10);
-          whole = omega (arith, so.whole, ap (left begun) (drop-cons s i 0 h), ap (λ (k : ℕ). left (bool_byte (not (eqb (get_or s i 0) 10))) (drop k s)) (add-one i));
-        }
-      where
-        either : (t : Bool) → count + bool_byte t + bool_byte (not t) ≤ i + 1
-        either true = omega (arith, so.few)
-        either false = omega (arith, so.few)
+the_last : (s : List ℕ) (y : ℕ) → Some y ≡ slice_get s (length s - 1) → not (is_feed y) ≡ ends_cut s
+the_last [] y e = absurd (cc)
+the_last (b ∷ []) y e = let same : y ≡ b = cc in ap (λ (x : ℕ). not (is_feed x)) same
+the_last (b ∷ c ∷ bs) y e = the_last (c ∷ bs) y (e ∙ behind_first b c bs)
 
-    pub lines_ended : length s ≤ i → count + begun ≡ length (lines_of s)
-    lines_ended h = omega (arith, so.whole, ap (left begun) (drop_of_length-le s h))
-
-pub ruleset lines_counted = (lines_begun, count_fits, lines_turned, lines_ended)
+pub tested_last : (P : Bor ℕ → Type 0) (s : List ℕ) (o : std.Option (Bor ℕ)) (r : Bool) → option_copied o ≡ slice_get s (length s - 1) → MatchOption o (r ≡ false) P
+    → ((x : Bor ℕ) → P x → r ≡ not (is_feed x.now)) → r ≡ ends_cut s
+tested_last P s None r is m h = m ∙ no_last s is
+tested_last P s (Some x) r is m h = h x m ∙ the_last s x.now is

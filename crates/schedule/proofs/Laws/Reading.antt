@@ -1,328 +1,283 @@
--- Laws of `step_in` (specs/Step.antt) as the code goes: what `step_in` and the functions of src/steps.rt answer. Each set is for `search`.
---   write_found, write_bad          writes_read
---   read_found, read_bad            reads_read
---   deliver_found, deliver_bad      delivers_read
---   desk_found, desk_bad            desks_read
---   step_w .. step_t, step_other    steps_read
--- What callers may want to know of a step is in proofs/Laws/Steps.antt.
+-- Laws of `start_in` and `step_in` (specs/Start.antt, specs/Step.antt) as the code goes: what the functions of src/lib.rt and src/steps.rt answer.
+-- Each set is for `search`: reads_read, delivers_read, writes_read, desks_read, starts_read, steps_read.
 -- Assumes nothing.
+use Rattle.std.proofs.Common as std
+use Rattle.std.proofs.Common.{None, Some}
 use mathlib.Core.Path.{◌≡◌, refl, sym, ap, ◌∙◌}
 use mathlib.Core.List.{List, [], ◌∷◌}
-use mathlib.Core.Bool.{Bool, true, false, cond, not, ◌&&◌, and-false}
+use mathlib.Core.Bool.{Bool, true, false, cond, ◌&&◌, and-false}
 use mathlib.Core.Option.{Option, none, some}
-use Prim.Native.Nat.{ℕ, ◌+◌, ◌≤◌}
+use Prim.Native.Nat.{ℕ, ◌<◌, ◌≤◌}
 use native.Mathlib.Omega.{arith}
-use lib.Dec.{leb, ltb, eqb}
-use lib.ListN.{length, drop_of_length-le}
-use borrow.Author.Tests.{ltb-false, ne_eqb}
-use Rattle.std.proofs.Common as std
-use Rattle.schedule.specs.declared.Step as declared
-use Rattle.schedule.specs.Step.{Act, writes, reads, sends, delivers, takes, Step, said_step}
+use lib.Dec.{eqb}
+use lib.ListN.{length, get_or}
+use borrow.Author.Tests.{ne_eqb}
 use Rattle.content.specs.declared.Content.{Content}
-use Rattle.content.specs.declared.Content.TheVariants.{Blank}
-use Rattle.text.specs.Separated.{parts, space}
-use Rattle.text.specs.Decimal.{is_decimal, value}
-use Rattle.text.proofs.Laws.Parts.{parts_on}
-use Rattle.schedule.specs.declared.words.Number.{Number}
-use Rattle.schedule.specs.declared.words.Letter.{Letter}
-use Rattle.schedule.specs.declared.words.Given.{Given}
+use Rattle.text.specs.Decimal.{value}
+use Rattle.schedule.specs.declared.Step as declared
 use Rattle.schedule.specs.Lines.{ended}
-use Rattle.schedule.specs.Words.{is, is_number, is_desk, is_content_word, content_of_word}
-use Rattle.schedule.specs.Step.{write_in, read_in, deliver_in, desk_in, step_of, step_in}
-use Rattle.schedule.specs.Parts.{word_at, words_at, number_at, content_word_at, letter_of, letter_at}
-use Rattle.schedule.proofs.Laws.Words.{not_before, letter_is}
+use Rattle.schedule.specs.Words.{words, is, is_number, is_desk, is_content_word, content_of_word}
+use Rattle.schedule.specs.Step.{Act, writes, reads, sends, delivers, takes, Step, write_in, read_in, deliver_in, desk_in, step_of, step_in, said_step}
+use Rattle.schedule.specs.Start.{Start, mode_in, start_with, start_of, start_in}
+use Rattle.schedule.specs.Parts.{number, desk_of, mode, content}
+use Rattle.schedule.proofs.Laws.Words.{Spaced, by_last, told, not_told, one_byte}
 
--- where the word ends that starts at a place
-abbrev end_at : List ℕ → ℕ → ℕ
-end_at line from = from + length (word_at line from)
+-- ---- what a word says
 
--- the first three words from a place on, whatever is made of the list of words; and two numbers that are read one after the other
-module _ (line : List ℕ) (from : ℕ) where
-  abbrev len : ℕ
-  len = length line
+module _ (word : List ℕ) where
+  is_no_number : None ≡ number word → is_number word ≡ false
+  unfolding number
+  is_no_number e = not_told _ _ e
 
-  abbrev e₁ : ℕ
-  e₁ = end_at line from
+  the_number : (v : ℕ) → Some v ≡ number word → (is_number word ≡ true) × (value word ≡ v)
+  unfolding number
+  the_number v e = told _ _ v e
 
-  abbrev e₂ : ℕ
-  e₂ = end_at line (e₁ + 1)
+  is_no_desk : (n : ℕ) → None ≡ desk_of n word → is_desk n word ≡ false
+  unfolding desk_of
+  is_no_desk n e = not_told _ _ e
 
-  abbrev e₃ : ℕ
-  e₃ = end_at line (e₂ + 1)
+  the_desk : (n v : ℕ) → Some v ≡ desk_of n word → (is_desk n word ≡ true) × (value word ≡ v)
+  unfolding desk_of
+  the_desk n v e = told _ _ v e
 
-  by_three : (f : List (List ℕ) → Option Step)
-      → f (words_at line from)
-      ≡ f (word_at line from ∷ cond (ltb e₁ len) (word_at line (e₁ + 1) ∷ cond (ltb e₂ len) (word_at line (e₂ + 1) ∷ cond (ltb e₃ len) (words_at line (e₃ + 1)) []) []) [])
-  by_three f =
-      ap f (parts_on space line from)
-      ∙ ap (λ (l : List (List ℕ)). f (word_at line from ∷ cond (ltb e₁ len) l [])) (parts_on space line (e₁ + 1))
-      ∙ ap (λ (l : List (List ℕ)). f (word_at line from ∷ cond (ltb e₁ len) (word_at line (e₁ + 1) ∷ cond (ltb e₂ len) l []) [])) (parts_on space line (e₂ + 1))
+  is_no_content : None ≡ content word → is_content_word word ≡ false
+  unfolding content
+  is_no_content e = not_told _ _ e
 
-  in_turn : (g : Number → Number → Option Step) (p q : Number) → p ≡ number_at line from → q ≡ number_at line (p.end + 1)
-      → g (number_at line from) (number_at line (e₁ + 1)) ≡ g p q
-  unfolding number_at
-  in_turn g p q p_is q_is = ap (λ (x : Number). g x (number_at line (x.end + 1))) (sym p_is) ∙ ap (g p) (sym q_is)
+  the_content : (c : Content) → Some c ≡ content word → (is_content_word word ≡ true) × (content_of_word word ≡ c)
+  unfolding content
+  the_content c e = told _ _ c e
+
+-- a desk is a number
+no_desk_spaced : (n : ℕ) (l : List ℕ) → Spaced l → is_desk n l ≡ false
+unfolding is_desk
+no_desk_spaced n l s = rw s.no_number
+
+neither : {A : Type 0} (t : Bool) (x : A) → cond (t && false) (some x) none ≡ none
+neither true x = refl
+neither false x = refl
 
 -- ---- "`r` desk cell"
 
-reads_by_words : (n : ℕ) (p cell word : List ℕ) (words : List (List ℕ)) (t₁ t₂ : Bool)
-    → read_in n (p ∷ cond t₁ (cell ∷ cond t₂ (word ∷ words) []) [])
-    ≡ cond (t₁ && not t₂ && (is_desk n p && is_number cell)) (some (record { desk = value p; act = reads (value cell) })) none
-reads_by_words n p cell word words false t₂ = refl
-reads_by_words n p cell word words true true = refl
-reads_by_words n p cell word words true false = refl
+module _ (n : ℕ) (rest p l : List ℕ) (cut : words rest ≡ p ∷ words l) where
+  reads_is : read_in n (words rest) ≡ cond (is_desk n p && is_number l) (some (record { desk = value p; act = reads (value l) })) none
+  reads_is =
+      ap (read_in n) cut
+      ∙ by_last (λ (ws : List (List ℕ)). read_in n (p ∷ ws)) l (λ a b ps. refl) (λ s. rw s.no_number (neither (is_desk n p) _))
 
-reads_by_numbers : (a i₁ i₂ : Bool) (n v₁ v₂ : ℕ)
-    → ◌≡◌ {A = Option Step}
-    (cond (a && (i₁ && ltb v₁ n && i₂)) (some (record { desk = v₁; act = reads v₂ })) none)
-    (cond (a && (i₁ && ltb (cond i₁ v₁ 0) n && i₂)) (some (record { desk = cond i₁ v₁ 0; act = reads (cond i₂ v₂ 0) })) none)
-reads_by_numbers false i₁ i₂ n v₁ v₂ = refl
-reads_by_numbers true false i₂ n v₁ v₂ = refl
-reads_by_numbers true true false n v₁ v₂ = rw (and-false (ltb v₁ n))
-reads_by_numbers true true true n v₁ v₂ = refl
+  pub read_no_desk : None ≡ desk_of n p → none ≡ read_in n (words rest)
+  read_no_desk e = sym (reads_is ∙ rw (is_no_desk p n e))
 
-abbrev read_test : ℕ → ℕ → Number → Number → Bool
-read_test n len p cell = ltb p.end len && leb len cell.end && (p.ok && ltb p.value n && cell.ok)
+  pub read_no_cell : None ≡ number l → none ≡ read_in n (words rest)
+  read_no_cell e = sym (reads_is ∙ rw (is_no_number l e) (neither (is_desk n p) _))
 
-abbrev read_of : ℕ → ℕ → Number → Number → Option Step
-read_of n len p cell = cond (read_test n len p cell) (some (record { desk = p.value; act = reads cell.value })) none
+  pub read_found : (desk cell : ℕ) → Some desk ≡ desk_of n p → Some cell ≡ number l → some (record { desk = desk; act = reads cell }) ≡ read_in n (words rest)
+  read_found desk cell d c =
+      let is_d = the_desk p n desk d in
+      let is_c = the_number l cell c in
+      sym (reads_is ∙ rw (is_d.0, is_c.0, is_d.1, is_c.1))
 
-module _ (line : List ℕ) (from n : ℕ) where
-  reads_whole : read_in n (words_at line from) ≡ read_of n (length line) (number_at line from) (number_at line (end_at line from + 1))
-  unfolding number_at is_desk
-  reads_whole =
-      let len = length line in
-      let e₁ = end_at line from in
-      let e₂ = end_at line (e₁ + 1) in
-      by_three line from (read_in n)
-      ∙ reads_by_words n (word_at line from) (word_at line (e₁ + 1)) _ _ (ltb e₁ len) (ltb e₂ len)
-      ∙ reads_by_numbers (ltb e₁ len && not (ltb e₂ len)) (is_number (word_at line from)) (is_number (word_at line (e₁ + 1))) n (value (word_at line from)) (value (word_at line (e₁ + 1)))
-      ∙ rw (not_before e₂ len)
-
-  module _ (p cell : Number) (p_is : p ≡ number_at line from) (cell_is : cell ≡ number_at line (p.end + 1)) where
-    reads_by_code : read_in n (words_at line from) ≡ read_of n (length line) p cell
-    reads_by_code = reads_whole ∙ in_turn line from (read_of n (length line)) p cell p_is cell_is
-
-    pub read_found : read_test n (length line) p cell ≡ true → some (record { desk = p.value; act = reads cell.value }) ≡ read_in n (words_at line from)
-    read_found t = sym (reads_by_code ∙ rw t)
-
-    pub read_bad : read_test n (length line) p cell ≡ false → none ≡ read_in n (words_at line from)
-    read_bad t = sym (reads_by_code ∙ rw t)
-
-pub ruleset reads_read = (read_found, read_bad)
+pub ruleset reads_read = (read_no_desk, read_no_cell, read_found)
 
 -- ---- "`d` sender receiver"
 
-delivers_by_words : (n : ℕ) (q p word : List ℕ) (words : List (List ℕ)) (t₁ t₂ : Bool)
-    → deliver_in n (q ∷ cond t₁ (p ∷ cond t₂ (word ∷ words) []) [])
-    ≡ cond (t₁ && not t₂ && (is_desk n q && is_desk n p)) (some (record { desk = value p; act = delivers (value q) })) none
-delivers_by_words n q p word words false t₂ = refl
-delivers_by_words n q p word words true true = refl
-delivers_by_words n q p word words true false = refl
+module _ (n : ℕ) (rest q l : List ℕ) (cut : words rest ≡ q ∷ words l) where
+  delivers_is : deliver_in n (words rest) ≡ cond (is_desk n q && is_desk n l) (some (record { desk = value l; act = delivers (value q) })) none
+  delivers_is =
+      ap (deliver_in n) cut
+      ∙ by_last (λ (ws : List (List ℕ)). deliver_in n (q ∷ ws)) l (λ a b ps. refl) (λ s. rw (no_desk_spaced n l s) (neither (is_desk n q) _))
 
-delivers_by_numbers : (a i₁ i₂ : Bool) (n v₁ v₂ : ℕ)
-    → ◌≡◌ {A = Option Step}
-    (cond (a && (i₁ && ltb v₁ n && (i₂ && ltb v₂ n))) (some (record { desk = v₂; act = delivers v₁ })) none)
-    (cond (a && (i₁ && ltb (cond i₁ v₁ 0) n && (i₂ && ltb (cond i₂ v₂ 0) n))) (some (record { desk = cond i₂ v₂ 0; act = delivers (cond i₁ v₁ 0) })) none)
-delivers_by_numbers false i₁ i₂ n v₁ v₂ = refl
-delivers_by_numbers true false i₂ n v₁ v₂ = refl
-delivers_by_numbers true true false n v₁ v₂ = rw (and-false (ltb v₁ n))
-delivers_by_numbers true true true n v₁ v₂ = refl
+  pub deliver_no_sender : None ≡ desk_of n q → none ≡ deliver_in n (words rest)
+  deliver_no_sender e = sym (delivers_is ∙ rw (is_no_desk q n e))
 
-abbrev deliver_test : ℕ → ℕ → Number → Number → Bool
-deliver_test n len q p = ltb q.end len && leb len p.end && (q.ok && ltb q.value n && (p.ok && ltb p.value n))
+  pub deliver_no_receiver : None ≡ desk_of n l → none ≡ deliver_in n (words rest)
+  deliver_no_receiver e = sym (delivers_is ∙ rw (is_no_desk l n e) (neither (is_desk n q) _))
 
-abbrev deliver_of : ℕ → ℕ → Number → Number → Option Step
-deliver_of n len q p = cond (deliver_test n len q p) (some (record { desk = p.value; act = delivers q.value })) none
+  pub deliver_found : (sender receiver : ℕ) → Some receiver ≡ desk_of n l → Some sender ≡ desk_of n q
+      → some (record { desk = receiver; act = delivers sender }) ≡ deliver_in n (words rest)
+  deliver_found sender receiver r s =
+      let is_r = the_desk l n receiver r in
+      let is_s = the_desk q n sender s in
+      sym (delivers_is ∙ rw (is_r.0, is_s.0, is_r.1, is_s.1))
 
-module _ (line : List ℕ) (from n : ℕ) where
-  delivers_whole : deliver_in n (words_at line from) ≡ deliver_of n (length line) (number_at line from) (number_at line (end_at line from + 1))
-  unfolding number_at is_desk
-  delivers_whole =
-      let len = length line in
-      let e₁ = end_at line from in
-      let e₂ = end_at line (e₁ + 1) in
-      by_three line from (deliver_in n)
-      ∙ delivers_by_words n (word_at line from) (word_at line (e₁ + 1)) _ _ (ltb e₁ len) (ltb e₂ len)
-      ∙ delivers_by_numbers (ltb e₁ len && not (ltb e₂ len)) (is_number (word_at line from)) (is_number (word_at line (e₁ + 1))) n (value (word_at line from)) (value (word_at line (e₁ + 1)))
-      ∙ rw (not_before e₂ len)
-
-  module _ (q p : Number) (q_is : q ≡ number_at line from) (p_is : p ≡ number_at line (q.end + 1)) where
-    delivers_by_code : deliver_in n (words_at line from) ≡ deliver_of n (length line) q p
-    delivers_by_code = delivers_whole ∙ in_turn line from (deliver_of n (length line)) q p q_is p_is
-
-    pub deliver_found : deliver_test n (length line) q p ≡ true → some (record { desk = p.value; act = delivers q.value }) ≡ deliver_in n (words_at line from)
-    deliver_found t = sym (delivers_by_code ∙ rw t)
-
-    pub deliver_bad : deliver_test n (length line) q p ≡ false → none ≡ deliver_in n (words_at line from)
-    deliver_bad t = sym (delivers_by_code ∙ rw t)
-
-pub ruleset delivers_read = (deliver_found, deliver_bad)
+pub ruleset delivers_read = (deliver_no_sender, deliver_no_receiver, deliver_found)
 
 -- ---- "`w` desk cell day-or-`open`"
 
-writes_by_words : (n : ℕ) (p cell c word : List ℕ) (words : List (List ℕ)) (t₁ t₂ t₃ : Bool)
-    → write_in n (p ∷ cond t₁ (cell ∷ cond t₂ (c ∷ cond t₃ (word ∷ words) []) []) [])
-    ≡ cond
-    (t₁ && t₂ && not t₃ && (is_desk n p && (is_number cell && is_content_word c)))
-    (some (record { desk = value p; act = writes (value cell) (content_of_word c) }))
-    none
-writes_by_words n p cell c word words false t₂ t₃ = refl
-writes_by_words n p cell c word words true false t₃ = refl
-writes_by_words n p cell c word words true true true = refl
-writes_by_words n p cell c word words true true false = refl
+none_of_both : {A : Type 0} (t u : Bool) (x : A) → cond (t && (u && false)) (some x) none ≡ none
+none_of_both true u x = neither u x
+none_of_both false u x = refl
 
-writes_by_numbers : (a i₁ i₂ i₃ : Bool) (n v₁ v₂ : ℕ) (c : Content)
-    → ◌≡◌ {A = Option Step}
-    (cond (a && (i₁ && ltb v₁ n && (i₂ && i₃))) (some (record { desk = v₁; act = writes v₂ c })) none)
-    (cond (a && (i₁ && ltb (cond i₁ v₁ 0) n && (i₂ && i₃))) (some (record { desk = cond i₁ v₁ 0; act = writes (cond i₂ v₂ 0) (cond i₃ c Blank) })) none)
-writes_by_numbers false i₁ i₂ i₃ n v₁ v₂ c = refl
-writes_by_numbers true false i₂ i₃ n v₁ v₂ c = refl
-writes_by_numbers true true false i₃ n v₁ v₂ c = rw (and-false (ltb v₁ n))
-writes_by_numbers true true true false n v₁ v₂ c = rw (and-false (ltb v₁ n))
-writes_by_numbers true true true true n v₁ v₂ c = refl
+module _ (n : ℕ) (rest p rest' cell l : List ℕ) (cut : words rest ≡ p ∷ words rest') (cut' : words rest' ≡ cell ∷ words l) where
+  writes_is : write_in n (words rest) ≡ cond (is_desk n p && (is_number cell && is_content_word l)) (some (record { desk = value p; act = writes (value cell) (content_of_word l) })) none
+  writes_is =
+      ap (write_in n) (cut ∙ ap (λ (ws : List (List ℕ)). p ∷ ws) cut')
+      ∙ by_last (λ (ws : List (List ℕ)). write_in n (p ∷ cell ∷ ws)) l (λ a b ps. refl) (λ s. rw s.no_content (none_of_both (is_desk n p) (is_number cell) _))
 
-abbrev write_test : ℕ → ℕ → Number → Number → Given → Bool
-write_test n len p cell c = ltb p.end len && ltb cell.end len && leb len c.end && (p.ok && ltb p.value n && (cell.ok && c.ok))
+  pub write_no_desk : None ≡ desk_of n p → none ≡ write_in n (words rest)
+  write_no_desk e = sym (writes_is ∙ rw (is_no_desk p n e))
 
-abbrev write_of : ℕ → ℕ → Number → Number → Given → Option Step
-write_of n len p cell c = cond (write_test n len p cell c) (some (record { desk = p.value; act = writes cell.value c.content })) none
+  pub write_no_cell : None ≡ number cell → none ≡ write_in n (words rest)
+  write_no_cell e = sym (writes_is ∙ rw (is_no_number cell e) (neither (is_desk n p) _))
 
-module _ (line : List ℕ) (from n : ℕ) where
-  writes_whole : write_in n (words_at line from) ≡ write_of n (length line) (number_at line from) (number_at line (end_at line from + 1)) (content_word_at line (end_at line (end_at line from + 1) + 1))
-  unfolding number_at content_word_at is_desk
-  writes_whole =
-      let len = length line in
-      let e₁ = end_at line from in
-      let e₂ = end_at line (e₁ + 1) in
-      let e₃ = end_at line (e₂ + 1) in
-      by_three line from (write_in n)
-      ∙ ap (λ (l : List (List ℕ)). write_in n (word_at line from ∷ cond (ltb e₁ len) (word_at line (e₁ + 1) ∷ cond (ltb e₂ len) (word_at line (e₂ + 1) ∷ cond (ltb e₃ len) l []) []) [])) (parts_on space line (e₃ + 1))
-      ∙ writes_by_words n (word_at line from) (word_at line (e₁ + 1)) (word_at line (e₂ + 1)) _ _ (ltb e₁ len) (ltb e₂ len) (ltb e₃ len)
-      ∙ writes_by_numbers (ltb e₁ len && ltb e₂ len && not (ltb e₃ len)) (is_number (word_at line from)) (is_number (word_at line (e₁ + 1))) (is_content_word (word_at line (e₂ + 1))) n (value (word_at line from)) (value (word_at line (e₁ + 1))) (content_of_word (word_at line (e₂ + 1)))
-      ∙ rw (not_before e₃ len)
+  pub write_no_content : None ≡ content l → none ≡ write_in n (words rest)
+  write_no_content e = sym (writes_is ∙ rw (is_no_content l e) (none_of_both (is_desk n p) (is_number cell) _))
 
-  module _ (p cell : Number) (c : Given) (p_is : p ≡ number_at line from) (cell_is : cell ≡ number_at line (p.end + 1)) (c_is : c ≡ content_word_at line (cell.end + 1)) where
-    writes_by_code : write_in n (words_at line from) ≡ write_of n (length line) p cell c
-    unfolding number_at
-    writes_by_code =
-        writes_whole
-        ∙ ap (λ (x : Number). write_of n (length line) x (number_at line (x.end + 1)) (content_word_at line ((number_at line (x.end + 1)).end + 1))) (sym p_is)
-        ∙ ap (λ (x : Number). write_of n (length line) p x (content_word_at line (x.end + 1))) (sym cell_is)
-        ∙ ap (write_of n (length line) p cell) (sym c_is)
+  pub write_found : (desk k : ℕ) (c : Content) → Some desk ≡ desk_of n p → Some k ≡ number cell → Some c ≡ content l
+      → some (record { desk = desk; act = writes k c }) ≡ write_in n (words rest)
+  write_found desk k c d e f =
+      let is_d = the_desk p n desk d in
+      let is_k = the_number cell k e in
+      let is_c = the_content l c f in
+      sym (writes_is ∙ rw (is_d.0, is_k.0, is_c.0, is_d.1, is_k.1, is_c.1))
 
-    pub write_found : write_test n (length line) p cell c ≡ true → some (record { desk = p.value; act = writes cell.value c.content }) ≡ write_in n (words_at line from)
-    write_found t = sym (writes_by_code ∙ rw t)
-
-    pub write_bad : write_test n (length line) p cell c ≡ false → none ≡ write_in n (words_at line from)
-    write_bad t = sym (writes_by_code ∙ rw t)
-
-pub ruleset writes_read = (write_found, write_bad)
+pub ruleset writes_read = (write_no_desk, write_no_cell, write_no_content, write_found)
 
 -- ---- "`s` desk", "`t` desk"
 
-desk_by_words : (n : ℕ) (a : Act) (p word : List ℕ) (words : List (List ℕ)) (t : Bool)
-    → desk_in n a (p ∷ cond t (word ∷ words) []) ≡ cond (not t && is_desk n p) (some (record { desk = value p; act = a })) none
-desk_by_words n a p word words true = refl
-desk_by_words n a p word words false = refl
+module _ (n : ℕ) (a : Act) (rest : List ℕ) where
+  desk_is : desk_in n a (words rest) ≡ cond (is_desk n rest) (some (record { desk = value rest; act = a })) none
+  desk_is = by_last (desk_in n a) rest (λ a b ps. refl) (λ s. rw (no_desk_spaced n rest s))
 
-desk_by_number : (b i : Bool) (n v : ℕ) (a : Act)
-    → ◌≡◌ {A = Option Step}
-    (cond (b && (i && ltb v n)) (some (record { desk = v; act = a })) none)
-    (cond (b && (i && ltb (cond i v 0) n)) (some (record { desk = cond i v 0; act = a })) none)
-desk_by_number false i n v a = refl
-desk_by_number true false n v a = refl
-desk_by_number true true n v a = refl
+  pub no_desk : None ≡ desk_of n rest → none ≡ desk_in n a (words rest)
+  no_desk e = sym (desk_is ∙ rw (is_no_desk rest n e))
 
-abbrev desk_test : ℕ → ℕ → Number → Bool
-desk_test n len p = leb len p.end && (p.ok && ltb p.value n)
+  pub desk_found : (desk : ℕ) → Some desk ≡ desk_of n rest → some (record { desk = desk; act = a }) ≡ desk_in n a (words rest)
+  desk_found desk e =
+      let is = the_desk rest n desk e in
+      sym (desk_is ∙ rw (is.0, is.1))
 
-abbrev desk_of : ℕ → ℕ → Act → Number → Option Step
-desk_of n len a p = cond (desk_test n len p) (some (record { desk = p.value; act = a })) none
+pub ruleset desks_read = (no_desk, desk_found)
 
-module _ (line : List ℕ) (from n : ℕ) (a : Act) where
-  desk_whole : desk_in n a (words_at line from) ≡ desk_of n (length line) a (number_at line from)
-  unfolding number_at is_desk
-  desk_whole =
-      let len = length line in
-      let e₁ = end_at line from in
-      ap (desk_in n a) (parts_on space line from)
-      ∙ ap (λ (l : List (List ℕ)). desk_in n a (word_at line from ∷ cond (ltb e₁ len) l [])) (parts_on space line (e₁ + 1))
-      ∙ desk_by_words n a (word_at line from) _ _ (ltb e₁ len)
-      ∙ desk_by_number (not (ltb e₁ len)) (is_number (word_at line from)) n (value (word_at line from)) a
-      ∙ rw (not_before e₁ len)
+-- ---- line 1
 
-  module _ (p : Number) (p_is : p ≡ number_at line from) where
-    desk_by_code : desk_in n a (words_at line from) ≡ desk_of n (length line) a p
-    desk_by_code = desk_whole ∙ ap (desk_of n (length line) a) (sym p_is)
+module _ (word : List ℕ) where
+  is_no_mode : None ≡ mode word → mode_in word ≡ none
+  unfolding mode mode_in
+  is_no_mode = by_tests (is "s" word) (is "c" word) (is "k" word) (is "-" word)
+    where
+      by_tests : (s c k d : Bool) → ◌≡◌ {A = std.Option ℕ} None (cond s (Some 1) (cond c (Some 2) (cond k (Some 3) (cond d (Some 0) None))))
+          → ◌≡◌ {A = Option ℕ} (cond s (some 1) (cond c (some 2) (cond k (some 3) (cond d (some 0) none)))) none
+      by_tests true c k d e = absurd (cc)
+      by_tests false true k d e = absurd (cc)
+      by_tests false false true d e = absurd (cc)
+      by_tests false false false true e = absurd (cc)
+      by_tests false false false false e = refl
 
-    pub desk_found : desk_test n (length line) p ≡ true → some (record { desk = p.value; act = a }) ≡ desk_in n a (words_at line from)
-    desk_found t = sym (desk_by_code ∙ rw t)
+  the_mode : (v : ℕ) → Some v ≡ mode word → mode_in word ≡ some v
+  unfolding mode mode_in
+  the_mode v = by_tests (is "s" word) (is "c" word) (is "k" word) (is "-" word)
+    where
+      by_tests : (s c k d : Bool) → ◌≡◌ {A = std.Option ℕ} (Some v) (cond s (Some 1) (cond c (Some 2) (cond k (Some 3) (cond d (Some 0) None))))
+          → ◌≡◌ {A = Option ℕ} (cond s (some 1) (cond c (some 2) (cond k (some 3) (cond d (some 0) none)))) (some v)
+      by_tests true c k d e = cc
+      by_tests false true k d e = cc
+      by_tests false false true d e = cc
+      by_tests false false false true e = cc
+      by_tests false false false false e = absurd (cc)
 
-    pub desk_bad : desk_test n (length line) p ≡ false → none ≡ desk_in n a (words_at line from)
-    desk_bad t = sym (desk_by_code ∙ rw t)
+no_start : (t : Bool) → ◌≡◌ {A = Option Start} (cond t none none) none
+no_start true = refl
+no_start false = refl
 
-pub ruleset desks_read = (desk_found, desk_bad)
+module _ (line n rest m l : List ℕ) (cut : words line ≡ n ∷ words rest) (cut' : words rest ≡ m ∷ words l) where
+  start_is : start_in (ended line) ≡ cond (is_number n && is_number m) (start_with (value n) (value m) (mode_in l)) none
+  unfolding start_in
+  start_is =
+      ap start_of (cut ∙ ap (λ (ws : List (List ℕ)). n ∷ ws) cut')
+      ∙ by_last (λ (ws : List (List ℕ)). start_of (n ∷ m ∷ ws)) l (λ a b ps. refl) (λ s. rw s.no_mode (no_start (is_number n && is_number m)))
+
+  pub start_no_n : None ≡ number n → none ≡ start_in (ended line)
+  start_no_n e = sym (start_is ∙ rw (is_no_number n e))
+
+  pub start_no_m : None ≡ number m → none ≡ start_in (ended line)
+  start_no_m e = sym (start_is ∙ rw (is_no_number m e, and-false (is_number n)))
+
+  pub start_no_mode : None ≡ mode l → none ≡ start_in (ended line)
+  start_no_mode e = sym (start_is ∙ rw (is_no_mode l e) (no_start (is_number n && is_number m)))
+
+  pub start_found : (a b k : ℕ) → Some a ≡ number n → Some b ≡ number m → Some k ≡ mode l → some (record { n = a; m = b; mode = k }) ≡ start_in (ended line)
+  start_found a b k e f g =
+      let is_a = the_number n a e in
+      let is_b = the_number m b f in
+      sym (start_is ∙ rw (is_a.0, is_b.0, the_mode l k g, is_a.1, is_b.1))
+
+pub one_word : (line : List ℕ) → words line ≡ line ∷ [] → none ≡ start_in (ended line)
+unfolding start_in
+one_word line e = rw e
+
+pub two_words : (line n rest : List ℕ) → words line ≡ n ∷ words rest → words rest ≡ rest ∷ [] → none ≡ start_in (ended line)
+unfolding start_in
+two_words line n rest e f = rw (e, f)
+
+pub ruleset starts_read = (one_word, two_words, start_no_n, start_no_m, start_no_mode, start_found)
 
 -- ---- the letter
 
-abbrev by_letter : ℕ → ℕ → List (List ℕ) → Option Step
-by_letter n letter rest =
-    cond (eqb letter 119) (write_in n rest)
-    (cond (eqb letter 114) (read_in n rest)
-    (cond (eqb letter 115) (desk_in n sends rest)
-    (cond (eqb letter 100) (deliver_in n rest)
-    (cond (eqb letter 116) (desk_in n takes rest) none))))
+module _ (line : List ℕ) (n : ℕ) where
+  five : (a b c d e : Bool) → ◌≡◌ {A = Option Step} (cond a none (cond b none (cond c none (cond d none (cond e none none))))) none
+  five true b c d e = refl
+  five false true c d e = refl
+  five false false true d e = refl
+  five false false false true e = refl
+  five false false false false true = refl
+  five false false false false false = refl
 
-step_by_letter : (n : ℕ) (word : List ℕ) (rest : List (List ℕ)) → step_of n (word ∷ rest) ≡ by_letter n (letter_of word) rest
-unfolding is
-step_by_letter n word rest = rw (letter_is 119 refl word, letter_is 114 refl word, letter_is 115 refl word, letter_is 100 refl word, letter_is 116 refl word)
+  pub step_alone : words line ≡ line ∷ [] → none ≡ step_in n (ended line)
+  unfolding step_in
+  step_alone e = rw e (sym (five (is "w" line) (is "r" line) (is "s" line) (is "d" line) (is "t" line)))
 
--- where no word comes behind the letter, the place behind it has an empty one, which says as little
-module _ (line : List ℕ) (end : ℕ) (step_of_lem : List (List ℕ) → Option Step) where
-  rest_of : step_of_lem [] ≡ step_of_lem ([] ∷ []) → step_of_lem (cond (ltb end (length line)) (words_at line (end + 1)) []) ≡ step_of_lem (words_at line (end + 1))
-  unfolding parts
-  rest_of empty_word = by_test (ltb end (length line)) refl
-    where
-      by_test : (t : Bool) → ltb end (length line) ≡ t → step_of_lem (cond t (words_at line (end + 1)) []) ≡ step_of_lem (words_at line (end + 1))
-      by_test true e = refl
-      by_test false e =
-          let short : length line ≤ end = ltb-false end (length line) e in
-          let past : length line ≤ end + 1 = omega arith in
-          empty_word ∙ ap (λ (l : List ℕ). step_of_lem (parts space l)) (sym (drop_of_length-le line past))
+  module _ (letter rest : List ℕ) (cut : words line ≡ letter ∷ words rest) where
+    whole : step_in n (ended line) ≡ step_of n (letter ∷ words rest)
+    unfolding step_in
+    whole = ap (step_of n) cut
 
-module _ (line : List ℕ) (n : ℕ) (first : Letter) (first_is : first ≡ letter_at line 0) where
-  abbrev rest : List (List ℕ)
-  rest = cond (ltb first.end (length line)) (words_at line (first.end + 1)) []
+    pub step_short : length letter < 1 → none ≡ step_in n (ended line)
+    unfolding is
+    step_short h = sym (whole ∙ empty letter h)
+      where
+        empty : (w : List ℕ) → length w < 1 → step_of n (w ∷ words rest) ≡ none
+        empty [] h = refl
+        empty (b ∷ bs) h = absurd (omega arith)
 
-  whole : step_in n (ended line) ≡ by_letter n first.byte rest
-  unfolding step_in letter_at
-  whole =
-      ap (step_of n) (parts_on space line 0)
-      ∙ step_by_letter n (word_at line 0) (cond (ltb (end_at line 0) (length line)) (words_at line (end_at line 0 + 1)) [])
-      ∙ ap (λ (x : Letter). by_letter n x.byte (cond (ltb x.end (length line)) (words_at line (x.end + 1)) [])) (sym first_is)
+    pub step_long : 2 ≤ length letter → none ≡ step_in n (ended line)
+    unfolding is
+    step_long h = sym (whole ∙ long letter h)
+      where
+        long : (w : List ℕ) → 2 ≤ length w → step_of n (w ∷ words rest) ≡ none
+        long [] h = absurd (omega arith)
+        long (b ∷ []) h = absurd (omega arith)
+        long (b ∷ c ∷ bs) h = rw (and-false (eqb b 119), and-false (eqb b 114), and-false (eqb b 115), and-false (eqb b 100), and-false (eqb b 116))
 
-  pub step_other : (first.byte ≡ 119 → ⊥) → (first.byte ≡ 114 → ⊥) → (first.byte ≡ 115 → ⊥) → (first.byte ≡ 100 → ⊥) → (first.byte ≡ 116 → ⊥) → none ≡ step_in n (ended line)
-  step_other w r s d t =
-      sym (whole ∙ rw (ne_eqb first.byte 119 w, ne_eqb first.byte 114 r, ne_eqb first.byte 115 s, ne_eqb first.byte 100 d, ne_eqb first.byte 116 t))
+    module _ (low : 1 ≤ length letter) (high : length letter < 2) where
+      pub step_other : (get_or letter 0 0 ≡ 119 → ⊥) → (get_or letter 0 0 ≡ 114 → ⊥) → (get_or letter 0 0 ≡ 115 → ⊥) → (get_or letter 0 0 ≡ 100 → ⊥) → (get_or letter 0 0 ≡ 116 → ⊥)
+          → none ≡ step_in n (ended line)
+      unfolding is
+      step_other w r s d t =
+          let b = get_or letter 0 0 in
+          sym (whole ∙ rw (one_byte letter b low high refl, ne_eqb b 119 w, ne_eqb b 114 r, ne_eqb b 115 s, ne_eqb b 100 d, ne_eqb b 116 t))
 
-  -- b is what the rest of the line says
-  module _ (b : std.Option declared.Step) where
-    pub step_w : first.byte ≡ 119 → said_step b ≡ write_in n (words_at line (first.end + 1)) → said_step b ≡ step_in n (ended line)
-    step_w e is = is ∙ sym (whole ∙ rw e (rest_of line first.end (write_in n) refl))
+      -- b is what the rest of the line says
+      module _ (b : std.Option declared.Step) where
+        pub step_w : get_or letter 0 0 ≡ 119 → said_step b ≡ write_in n (words rest) → said_step b ≡ step_in n (ended line)
+        unfolding is
+        step_w e is = is ∙ sym (whole ∙ rw (one_byte letter 119 low high e))
 
-    pub step_r : first.byte ≡ 114 → said_step b ≡ read_in n (words_at line (first.end + 1)) → said_step b ≡ step_in n (ended line)
-    step_r e is = is ∙ sym (whole ∙ rw e (rest_of line first.end (read_in n) refl))
+        pub step_r : get_or letter 0 0 ≡ 114 → said_step b ≡ read_in n (words rest) → said_step b ≡ step_in n (ended line)
+        unfolding is
+        step_r e is = is ∙ sym (whole ∙ rw (one_byte letter 114 low high e))
 
-    pub step_s : first.byte ≡ 115 → said_step b ≡ desk_in n sends (words_at line (first.end + 1)) → said_step b ≡ step_in n (ended line)
-    unfolding is_desk is_number is_decimal
-    step_s e is = is ∙ sym (whole ∙ rw e (rest_of line first.end (desk_in n sends) refl))
+        pub step_s : get_or letter 0 0 ≡ 115 → said_step b ≡ desk_in n sends (words rest) → said_step b ≡ step_in n (ended line)
+        unfolding is
+        step_s e is = is ∙ sym (whole ∙ rw (one_byte letter 115 low high e))
 
-    pub step_d : first.byte ≡ 100 → said_step b ≡ deliver_in n (words_at line (first.end + 1)) → said_step b ≡ step_in n (ended line)
-    step_d e is = is ∙ sym (whole ∙ rw e (rest_of line first.end (deliver_in n) refl))
+        pub step_d : get_or letter 0 0 ≡ 100 → said_step b ≡ deliver_in n (words rest) → said_step b ≡ step_in n (ended line)
+        unfolding is
+        step_d e is = is ∙ sym (whole ∙ rw (one_byte letter 100 low high e))
 
-    pub step_t : first.byte ≡ 116 → said_step b ≡ desk_in n takes (words_at line (first.end + 1)) → said_step b ≡ step_in n (ended line)
-    unfolding is_desk is_number is_decimal
-    step_t e is = is ∙ sym (whole ∙ rw e (rest_of line first.end (desk_in n takes) refl))
+        pub step_t : get_or letter 0 0 ≡ 116 → said_step b ≡ desk_in n takes (words rest) → said_step b ≡ step_in n (ended line)
+        unfolding is
+        step_t e is = is ∙ sym (whole ∙ rw (one_byte letter 116 low high e))
 
-pub ruleset steps_read = (step_w, step_r, step_s, step_d, step_t, step_other)
+pub ruleset steps_read = (step_alone, step_short, step_long, step_other, step_w, step_r, step_s, step_d, step_t)

@@ -1,166 +1,159 @@
--- Laws of the words of a line: of `number_at`, `letter_at`, `mode_of` (specs/Parts.antt) and `is` (specs/Words.antt).
---   not_before                                     a test and its contrary
---   capped_test                                    a test of a capped value is the value's
---   most_of                                        a value that passed a test is within it
---   number_found, no_number                        what `number_at` answers; numbers_read, a set for `search`
---   number_room, letter_room                       where a word ends
---   letter_place, letter_found, no_letter          what `letter_at` answers; letters_read
---   past_is_0                                      what `byte_at` answers past the end
---   letter_is                                      a word is a letter if its byte is
---   mode_s, mode_c, mode_k, mode_default, no_mode  what `mode_of` answers; modes
---   mode_is                                        the mode of a letter is that of the word
+-- Laws of the words of a line (specs/Words.antt), and of what the functions of src/words.rt answer of one (specs/Parts.antt).
+--   cut_here, cut_none                             what `cut` answers
+--   Spaced, by_last                                a text with a space in it is no word of any kind, so the last word may be read in all that is left
+--   one_byte                                       a word of one byte
+--   told, not_told                                 what an answer under a test tells of the test
 -- Assumes nothing.
+use Rattle.std.proofs.Common.{None, Some}
+use Rattle.std.proofs.lemmas.Bool.{false≢true}
+use Rattle.std.specs.List.{position, position_or_len, join_with_byte}
+use Rattle.std.proofs.lemmas.List.Splits.{slice_split_first, join_with_byte-slice_split}
 use mathlib.Core.Path.{◌≡◌, refl, sym, ap, ◌∙◌}
 use mathlib.Core.List.{List, [], ◌∷◌}
-use mathlib.Core.Bool.{Bool, true, false, cond, not, ◌&&◌, and-true, and-false}
-use mathlib.Core.Option.{Option, none, some}
-use Prim.Native.Nat.{ℕ, ◌+◌, ◌-◌, ◌<◌, ◌≤◌, min}
+use mathlib.Core.Bool.{Bool, true, false, cond, ◌&&◌, and-false}
+use mathlib.Core.Option.{Option, none}
+use Prim.Native.Nat.{ℕ, ◌+◌, ◌-◌, ◌<◌, ◌≤◌}
+use Prim.Native.String.{String}
 use native.Mathlib.Omega.{arith}
 use lib.Dec.{eqb, leb, ltb}
-use lib.ListN.{length, get_or, drop, get_or-eq_default}
-use borrow.Author.Tests.{ltb-true, ltb-false, leb-true, leb-false, le-leb, lt-leb, ne_eqb}
-use Rattle.text.specs.declared.Decimal.{Decimal}
-use Rattle.text.specs.Separated.{first_part, space}
-use Rattle.text.specs.Decimal.{is_decimal, value, beyond, decimal_at}
-use Rattle.numbers.proofs.Tests.{tested}
-use Rattle.text.proofs.Laws.Parts.{empty, part_room, part_goes_on}
-use Rattle.schedule.specs.declared.words.Number.{Number}
-use Rattle.schedule.specs.declared.words.Letter.{Letter}
-use Rattle.schedule.specs.Words.{same, is, is_number}
+use lib.ListN.{length, get_or, take, drop, length-drop}
+use lib.Seq.{take_all}
+use borrow.Author.Tests.{ltb-true, ltb-false, le-ltb, eqb-true}
+use Rattle.numbers.specs.Limits.{within}
+use Rattle.numbers.proofs.Tests.{and_split}
+use Rattle.text.specs.Text.{text}
+use Rattle.text.specs.Separated.{parts, first_part, onto_first, space, minus}
+use Rattle.text.specs.Decimal.{is_digit, digits, is_decimal, value}
+use Rattle.text.proofs.Laws.Parts.{parts_split, part_taken, parts_are, first_is}
+use Rattle.schedule.specs.Words.{words, same, is, is_number, is_day_word, is_content_word}
 use Rattle.schedule.specs.Start.{mode_in}
-use Rattle.schedule.specs.Parts.{word_at, number_at, letter_of, letter_at, mode_of}
 
--- a place that is not before another is not below it
-pub not_before : (a b : ℕ) → not (ltb a b) ≡ leb b a
-not_before a b = by_test (ltb a b) refl
+-- ---- cut
+
+abbrev is_space : ℕ → Bool
+is_space b = eqb b space
+
+module _ (line : List ℕ) where
+  -- the place of the first space
+  abbrev place : ℕ
+  place = position_or_len is_space line
+
+  pub cut_here : (end : ℕ) → Some end ≡ position is_space line
+      → words line ≡ take end line ∷ words (take (length line - (end + 1)) (drop (end + 1) line))
+  cut_here end e = by_test (ltb place (length line)) refl e
+    where
+      by_test : (t : Bool) → ltb place (length line) ≡ t → Some end ≡ cond t (Some place) None
+          → words line ≡ take end line ∷ words (take (length line - (end + 1)) (drop (end + 1) line))
+      by_test true t e =
+          let there : place < length line = ltb-true place (length line) t in
+          let same_place : end ≡ place = cc in
+          rw (same_place, take_all (length line - (place + 1)) (drop (place + 1) line) (omega (arith, length-drop (place + 1) line)))
+          (parts_are space line ∙ slice_split_first is_space line 0 there ∙ ap (λ (ws : List (List ℕ)). take place line ∷ ws) (sym (parts_are space (drop (place + 1) line))))
+      by_test false t e = absurd (cc)
+
+  pub cut_none : None ≡ position is_space line → words line ≡ line ∷ []
+  cut_none e = by_test (ltb place (length line)) refl e
+    where
+      by_test : (t : Bool) → ltb place (length line) ≡ t → None ≡ cond t (Some place) None → words line ≡ line ∷ []
+      by_test true t e = absurd (cc)
+      by_test false t e =
+          let past : length line ≤ length (first_part space line) = omega (arith, first_is space line, ltb-false place (length line) t) in
+          let all : first_part space line ≡ line = part_taken space line ∙ take_all (length (first_part space line)) line past in
+          parts_split space line ∙ ap (λ (t : Bool). first_part space line ∷ cond t (words (drop (length (first_part space line) + 1) line)) []) (le-ltb (length (first_part space line)) (length line) past) ∙ ap (λ (w : List ℕ). w ∷ []) all
+
+-- ---- the last word
+
+-- a text with a space in it is no word
+pub record Spaced (l : List ℕ) : Type 0 where
+  pub no_number : is_number l ≡ false
+  pub no_content : is_content_word l ≡ false
+  pub no_mode : mode_in l ≡ none
+
+no_digits : (s : List ℕ) → 2 ≤ length (words s) → digits s ≡ false
+unfolding parts
+no_digits [] h = absurd (omega arith)
+no_digits (b ∷ bs) h = by_byte (eqb b space) refl h (no_digits bs)
   where
-    by_test : (t : Bool) → ltb a b ≡ t → not t ≡ leb b a
-    by_test true e = sym (lt-leb b a (ltb-true a b e))
-    by_test false e = sym (le-leb b a (ltb-false a b e))
+    by_byte : (t : Bool) → eqb b space ≡ t → 2 ≤ length (cond t ([] ∷ parts space bs) (onto_first b (parts space bs)))
+        → (2 ≤ length (words bs) → digits bs ≡ false) → is_digit b && digits bs ≡ false
+    by_byte true e h more = rw (eqb-true b space e)
+    by_byte false e h more =
+        let first = parts_split space bs in
+        rw (more (omega (arith, ap length first, ap (λ (l : List (List ℕ)). length (onto_first b l)) first))) (and-false (is_digit b))
 
--- ---- numbers
+no_decimal : (s : List ℕ) → 2 ≤ length (words s) → is_decimal s ≡ false
+unfolding is_decimal
+no_decimal s h = rw (no_digits s h)
 
-pub capped_test : (v k : ℕ) → k < beyond → leb (min v beyond) k ≡ leb v k
-capped_test v k h = by_test (leb v k) refl
+same_is : (word other : List ℕ) → same word other ≡ true → word ≡ other
+same_is [] [] t = refl
+same_is [] (b ∷ bs) t = absurd (false≢true t)
+same_is (a ∷ rest) [] t = absurd (false≢true t)
+same_is (a ∷ rest) (b ∷ bs) t =
+    let both = and_split (eqb a b) (same rest bs) t in
+    let first = eqb-true a b both.0 in
+    let others = same_is rest bs both.1 in
+    cc
+
+no_text : (t : String) (word : List ℕ) → length (words (text t)) ≡ 1 → 2 ≤ length (words word) → is t word ≡ false
+unfolding is
+no_text t word one many = by_test (same word (text t)) refl
   where
-    by_test : (t : Bool) → leb v k ≡ t → leb (min v beyond) k ≡ leb v k
-    by_test true e = let l = leb-true v k e in le-leb (min v beyond) k (omega arith) ∙ sym e
-    by_test false e = let l = leb-false v k e in lt-leb (min v beyond) k (omega arith) ∙ sym e
+    by_test : (u : Bool) → same word (text t) ≡ u → u ≡ false
+    by_test true e = absurd (omega (arith, ap (λ (w : List ℕ). length (words w)) (same_is word (text t) e)))
+    by_test false e = refl
 
--- what a test leaves to know of a value: a rule for `omega`
-pub most_of : (a : Bool) (v most : ℕ) → a && leb v most ≡ true → v ≤ most
-most_of a v most t = search tested
+no_day : (word : List ℕ) → 2 ≤ length (words word) → is_day_word word ≡ false
+unfolding is_day_word parts
+no_day [] h = refl
+no_day (b ∷ bs) h = by_byte (eqb b minus) refl (within 1 2147483648 (value bs)) (leb (value (b ∷ bs)) 2147483647)
+  where
+    by_byte : (t : Bool) → eqb b minus ≡ t → (u v : Bool) → cond t (is_decimal bs && u) (is_decimal (b ∷ bs) && v) ≡ false
+    by_byte true e u v =
+        let onto : 2 ≤ length (words (minus ∷ bs)) = rw (eqb-true b minus e) at h in
+        let first = parts_split space bs in
+        rw (no_decimal bs (omega (arith, ap length first, ap (λ (l : List (List ℕ)). length (onto_first minus l)) first)))
+    by_byte false e u v = rw (no_decimal (b ∷ bs) h)
 
-module _ (line : List ℕ) (from : ℕ) (d : Decimal) (is : d ≡ decimal_at space line from) where
-  ends : d.end ≡ from + length (word_at line from)
-  unfolding decimal_at
-  ends = ap (λ (x : Decimal). x.end) is
+spaced : (l : List ℕ) → 2 ≤ length (words l) → Spaced l
+unfolding is_number is_content_word mode_in parts
+spaced l h =
+    record {
+      no_number = rw (no_decimal l h);
+      no_content = rw (no_text "open" l refl h, no_day l h);
+      no_mode = rw (no_text "s" l refl h, no_text "c" l refl h, no_text "k" l refl h, no_text "-" l refl h);
+    }
 
-  by_value : d.value ≡ min (value (word_at line from)) beyond
-  unfolding decimal_at
-  by_value = ap (λ (x : Decimal). x.value) is
+pub by_last : {A : Type 0} (f : List (List ℕ) → Option A) (l : List ℕ) → ((a b : List ℕ) (ps : List (List ℕ)) → f (a ∷ b ∷ ps) ≡ none) → (Spaced l → f (l ∷ []) ≡ none)
+    → f (words l) ≡ f (l ∷ [])
+by_last f l long alone = by_words (words l) refl
+  where
+    by_words : (ws : List (List ℕ)) → words l ≡ ws → f ws ≡ f (l ∷ [])
+    by_words [] e = absurd (omega (arith, ap length e, ap length (parts_split space l)))
+    by_words (w ∷ []) e =
+        ap (λ (v : List ℕ). f (v ∷ [])) (ap (join_with_byte space) (sym e ∙ parts_are space l) ∙ join_with_byte-slice_split space l)
+    by_words (a ∷ b ∷ ps) e = long a b ps ∙ sym (alone (spaced l (omega (arith, ap length e))))
 
-  number_test : d.ok && leb d.value 4294967295 ≡ is_number (word_at line from)
-  unfolding decimal_at is_number
-  number_test =
-      ap (λ (x : Decimal). x.ok && leb x.value 4294967295) is
-      ∙ ap (λ (t : Bool). is_decimal (word_at line from) && t) (capped_test (value (word_at line from)) 4294967295 (omega arith))
+-- ---- a word of one byte
 
-  pub number_found : d.ok && leb d.value 4294967295 ≡ true → record { ok = true; value = d.value; end = d.end } ≡ number_at line from
-  unfolding number_at
-  number_found t =
-      let small = most_of d.ok d.value 4294967295 t in
-      let v-is : d.value ≡ value (word_at line from) = omega (arith, by_value) in
-      rw (sym number_test ∙ t, v-is, ends)
+pub one_byte : (word : List ℕ) (k : ℕ) → 1 ≤ length word → length word < 2 → get_or word 0 0 ≡ k → word ≡ k ∷ []
+one_byte [] k low high e = absurd (omega arith)
+one_byte (b ∷ []) k low high e = ap (λ (x : ℕ). x ∷ []) e
+one_byte (b ∷ c ∷ bs) k low high e = absurd (omega arith)
 
-  pub no_number : d.ok && leb d.value 4294967295 ≡ false → record { ok = false; value = 0; end = d.end } ≡ number_at line from
-  unfolding number_at
-  no_number t = rw (sym number_test ∙ t, ends)
+-- ---- an answer and its test
 
-pub ruleset numbers_read = (number_found, no_number)
+module _ {A : Type 0} (t : Bool) (x : A) where
+  pub told : (v : A) → Some v ≡ cond t (Some x) None → (t ≡ true) × (x ≡ v)
+  told v e = by_test t refl e
+    where
+      by_test : (u : Bool) → t ≡ u → Some v ≡ cond u (Some x) None → (t ≡ true) × (x ≡ v)
+      by_test true s e = (s, cc)
+      by_test false s e = absurd (cc)
 
-module _ (line : List ℕ) (from : ℕ) (p : Number) where
-  pub number_room : p ≡ number_at line from → p.end ≤ from + (length line - from)
-  unfolding number_at
-  number_room is =
-      let e : p.end ≡ from + length (word_at line from) = ap (λ (x : Number). x.end) is in
-      omega (arith, part_room space line from)
-
--- ---- letters
-
-no_byte : (word : List ℕ) → (length word ≡ 1 → ⊥) → letter_of word ≡ 0
-no_byte [] other = refl
-no_byte (b ∷ []) other = absurd (other refl)
-no_byte (b ∷ c ∷ bs) other = refl
-
-module _ (line : List ℕ) (from end : ℕ) (e : end ≡ from + length (word_at line from)) where
-  pub letter_place : end - from ≡ 1 → from < length line
-  letter_place one = (part_goes_on space line from (omega arith)).before_end
-
-  pub letter_found : end - from ≡ 1 → record { byte = get_or line from 0; end = end } ≡ letter_at line from
-  unfolding letter_at
-  letter_found one =
-      let on = part_goes_on space line from (omega arith) in
-      let alone : length (first_part space (drop (from + 1) line)) ≡ 0 = omega (arith, ap length on.part_is) in
-      rw (e, on.part_is, empty (first_part space (drop (from + 1) line)) alone)
-
-  pub no_letter : (end - from ≡ 1 → ⊥) → record { byte = 0; end = end } ≡ letter_at line from
-  unfolding letter_at
-  no_letter other = rw (no_byte (word_at line from) (λ one. other (omega arith)), e)
-
-pub ruleset letters_read = (letter_place, letter_found, no_letter)
-
-pub past_is_0 : (line : List ℕ) (at : ℕ) → length line ≤ at → 0 ≡ get_or line at 0
-past_is_0 line at h = sym (get_or-eq_default line 0 h)
-
-pub letter_room : (line : List ℕ) (from : ℕ) (l : Letter) → l ≡ letter_at line from → l.end ≤ from + (length line - from)
-unfolding letter_at
-letter_room line from l is =
-    let e : l.end ≡ from + length (word_at line from) = ap (λ (x : Letter). x.end) is in
-    omega (arith, part_room space line from)
-
-pub letter_is : (k : ℕ) → eqb 0 k ≡ false → (word : List ℕ) → same word (k ∷ []) ≡ eqb (letter_of word) k
-letter_is k other [] = sym other
-letter_is k other (b ∷ []) = and-true (eqb b k)
-letter_is k other (b ∷ c ∷ bs) = and-false (eqb b k) ∙ sym other
-
--- ---- modes
-
-module _ (l : ℕ) where
-  pub mode_s : l ≡ 115 → 1 ≡ mode_of l
-  unfolding mode_of
-  mode_s e = rw e
-
-  pub mode_c : l ≡ 99 → 2 ≡ mode_of l
-  unfolding mode_of
-  mode_c e = rw e
-
-  pub mode_k : l ≡ 107 → 3 ≡ mode_of l
-  unfolding mode_of
-  mode_k e = rw e
-
-  pub mode_default : l ≡ 45 → 0 ≡ mode_of l
-  unfolding mode_of
-  mode_default e = rw e
-
-  pub no_mode : (l ≡ 115 → ⊥) → (l ≡ 99 → ⊥) → (l ≡ 107 → ⊥) → (l ≡ 45 → ⊥) → 4 ≡ mode_of l
-  unfolding mode_of
-  no_mode s c k d = rw (ne_eqb l 115 s, ne_eqb l 99 c, ne_eqb l 107 k, ne_eqb l 45 d)
-
-pub ruleset modes = (mode_s, mode_c, mode_k, mode_default, no_mode)
-
-mode_tests : (s c k d : Bool)
-    → ◌≡◌ {A = Option ℕ}
-    (cond s (some 1) (cond c (some 2) (cond k (some 3) (cond d (some 0) none))))
-    (cond (ltb (cond s 1 (cond c 2 (cond k 3 (cond d 0 4)))) 4) (some (cond s 1 (cond c 2 (cond k 3 (cond d 0 4))))) none)
-mode_tests true c k d = refl
-mode_tests false true k d = refl
-mode_tests false false true d = refl
-mode_tests false false false true = refl
-mode_tests false false false false = refl
-
-pub mode_is : (word : List ℕ) → mode_in word ≡ cond (ltb (mode_of (letter_of word)) 4) (some (mode_of (letter_of word))) none
-unfolding mode_of mode_in is
-mode_is word =
-    rw (letter_is 115 refl word, letter_is 99 refl word, letter_is 107 refl word, letter_is 45 refl word)
-    (mode_tests (eqb (letter_of word) 115) (eqb (letter_of word) 99) (eqb (letter_of word) 107) (eqb (letter_of word) 45))
+  pub not_told : None ≡ cond t (Some x) None → t ≡ false
+  not_told e = by_test t refl e
+    where
+      by_test : (u : Bool) → t ≡ u → None ≡ cond u (Some x) None → t ≡ false
+      by_test true s e = absurd (cc)
+      by_test false s e = s

@@ -5,18 +5,22 @@
 --   part_taken                          it is as many bytes of the text
 --   parts_on                            the parts are the first, and, where a separator ends it, those behind it: what a walk from part to part cites
 --   part_short, part_room, part_within  how long it can be: a part that starts in the text ends in it
---   PartSoFar, part_found               the loop that looks for a part's end, and its laws as a set for `search`
+--   first_is, found_from                it is as long as the first place of a separator, which `position` finds
 -- Assumes nothing.
+use Rattle.std.proofs.Common.{Option, None, Some}
+use Rattle.std.specs.List as list
+use Rattle.std.specs.List.{position_or_len, position, slice_range, slice_split}
+use Rattle.std.specs.Option.{unwrap_or}
 use mathlib.Core.Path.{◌≡◌, refl, sym, ap, ◌∙◌}
 use mathlib.Core.List.{List, [], ◌∷◌}
-use mathlib.Core.Bool.{Bool, true, false, cond}
+use mathlib.Core.Bool.{Bool, true, false, cond, not}
 use Prim.Native.Nat.{ℕ, suc, ◌+◌, ◌-◌, ◌<◌, ◌≤◌}
 use native.Mathlib.Omega.{arith}
 use native.Mathlib.Numerals.{add-one}
 use lib.Dec.{eqb, ltb, leb-suc-suc}
 use lib.ListN.{length, get_or, take, drop, length-drop, drop_of_length-le}
-use lib.Seq.{drop-cons, drop-drop}
-use borrow.Author.Tests.{lt-ltb, le-ltb, ltb-true, ltb-false, eq-eqb, ne_eqb}
+use lib.Seq.{drop-cons, drop-drop, take_all}
+use borrow.Author.Tests.{lt-ltb, le-ltb, ltb-true, ltb-false}
 use Rattle.text.specs.Separated.{onto_first, parts, first_part}
 
 pub empty : (l : List ℕ) → length l ≡ 0 → l ≡ []
@@ -98,7 +102,7 @@ module _ (sep : ℕ) (s : List ℕ) (from : ℕ) where
 -- ---- the parts, one by one
 
 -- what stands behind a part: more parts, if a separator ends it
-abbrev behind : ℕ → List ℕ → ℕ → List (List ℕ)
+abbrev pub behind : ℕ → List ℕ → ℕ → List (List ℕ)
 behind sep s end = cond (ltb end (length s)) (parts sep (drop (end + 1) s)) []
 
 behind_one_more : (sep b : ℕ) (bs : List ℕ) (k : ℕ) → behind sep (b ∷ bs) (suc k) ≡ behind sep bs k
@@ -110,7 +114,7 @@ onto_first_lem sep b bs f e true = rw (lt-ltb 0 (suc (length bs)) (omega arith))
 onto_first_lem sep b bs f e false =
     ap (onto_first b) e ∙ ap (λ (l : List (List ℕ)). (b ∷ f) ∷ l) (sym (behind_one_more sep b bs (length f)))
 
-parts_split : (sep : ℕ) (s : List ℕ) → parts sep s ≡ first_part sep s ∷ behind sep s (length (first_part sep s))
+pub parts_split : (sep : ℕ) (s : List ℕ) → parts sep s ≡ first_part sep s ∷ behind sep s (length (first_part sep s))
 unfolding parts first_part
 parts_split sep [] = refl
 parts_split sep (b ∷ bs) = onto_first_lem sep b bs (first_part sep bs) (parts_split sep bs) (eqb b sep)
@@ -139,30 +143,43 @@ parts_on sep s from =
     parts_split sep (drop from s)
     ∙ ap (λ (l : List (List ℕ)). first_part sep (drop from s) ∷ l) (behind_from sep s from (length (first_part sep (drop from s))))
 
--- ---- the loop that looks for the end
+-- ---- by the library's words
 
--- the part that starts at i ends where the part does that starts at `from`
-pub record PartSoFar (sep : ℕ) (s : List ℕ) (from i : ℕ) : Type 0 where
-  pub same_end : i + length (first_part sep (drop i s)) ≡ from + length (first_part sep (drop from s))
+pub parts_are : (sep : ℕ) (s : List ℕ) → parts sep s ≡ slice_split (λ b. eqb b sep) s
+unfolding parts
+parts_are sep [] = refl
+parts_are sep (b ∷ bs) =
+    ap (λ (ps : List (List ℕ)). cond (eqb b sep) ([] ∷ ps) (onto_first b ps)) (parts_are sep bs)
+    ∙ ap (cond (eqb b sep) ([] ∷ slice_split (λ c. eqb c sep) bs)) (onto (slice_split (λ c. eqb c sep) bs))
+  where
+    onto : (ps : List (List ℕ)) → onto_first b ps ≡ list.onto_first b ps
+    onto [] = refl
+    onto (p ∷ ps) = refl
 
-module _ (sep : ℕ) (s : List ℕ) (from : ℕ) where
-  pub part_begun : PartSoFar sep s from from
-  part_begun = record { same_end = refl }
+pub first_is : (sep : ℕ) (s : List ℕ) → length (first_part sep s) ≡ position_or_len (λ b. eqb b sep) s
+unfolding first_part
+first_is sep [] = refl
+first_is sep (b ∷ bs) = by_test (eqb b sep) (first_is sep bs)
+  where
+    by_test : (t : Bool) → length (first_part sep bs) ≡ position_or_len (λ b. eqb b sep) bs
+        → length (cond t [] (b ∷ first_part sep bs)) ≡ cond (not t) (1 + position_or_len (λ b. eqb b sep) bs) 0
+    by_test true e = refl
+    by_test false e = omega (arith, e)
 
-  module _ (i : ℕ) (so : PartSoFar sep s from i) where
-    pub part_turned : i < length s → (get_or s i 0 ≡ sep → ⊥) → PartSoFar sep s from (i + 1)
-    part_turned h e =
-        let more : length (first_part sep (drop i s)) ≡ suc (length (first_part sep (drop (i + 1) s))) = ap length (part_on sep s i h (ne_eqb _ _ e)) in
-        record { same_end = omega (arith, so.same_end) }
+-- what `position` finds, or else the length
+first_found : (sep : ℕ) (s : List ℕ) (r : Option ℕ) → r ≡ position (λ b. eqb b sep) s → unwrap_or r (length s) ≡ length (first_part sep s)
+first_found sep s r e = ap (λ (o : Option ℕ). unwrap_or o (length s)) e ∙ by_place (ltb (position_or_len (λ b. eqb b sep) s) (length s)) refl
+  where
+    by_place : (t : Bool) → ltb (position_or_len (λ b. eqb b sep) s) (length s) ≡ t
+        → unwrap_or (cond t (Some (position_or_len (λ b. eqb b sep) s)) None) (length s) ≡ length (first_part sep s)
+    by_place true e = sym (first_is sep s)
+    by_place false e =
+        let past = ltb-false (position_or_len (λ b. eqb b sep) s) (length s) e in
+        omega (arith, first_is sep s, part_short sep s)
 
-    pub part_stops : i < length s → get_or s i 0 ≡ sep → i ≡ from + length (first_part sep (drop from s))
-    part_stops h e =
-        let none : length (first_part sep (drop i s)) ≡ 0 = ap length (part_here sep s i h (eq-eqb _ _ e)) in
-        omega (arith, so.same_end)
-
-    pub part_ended : length s ≤ i → i ≡ from + length (first_part sep (drop from s))
-    part_ended h =
-        let none : length (first_part sep (drop i s)) ≡ 0 = ap length (part_past sep s i h) in
-        omega (arith, so.same_end)
-
-pub ruleset part_found = (part_begun, part_turned, part_stops, part_ended)
+-- the same of what stands from a place on
+pub found_from : (sep : ℕ) (s : List ℕ) (from : ℕ) (rest : List ℕ) (r : Option ℕ) → from ≤ length s → rest ≡ slice_range s from (length s) → r ≡ position (λ b. eqb b sep) rest
+    → unwrap_or r (length rest) ≡ length (first_part sep (drop from s))
+found_from sep s from rest r h is found =
+    let all : rest ≡ drop from s = is ∙ take_all (length s - from) (drop from s) (omega (arith, length-drop from s)) in
+    first_found sep rest r found ∙ ap (λ (l : List ℕ). length (first_part sep l)) all
