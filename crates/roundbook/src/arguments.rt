@@ -72,15 +72,14 @@ pub(crate) fn number_with(rt: &(impl Env + Eprint), wanted: Wanted) -> Number {
     }
     let mut buf = [0u8; 4096];
     let len = argument(rt, i, &mut buf);
-    let word = text::decimal_at(&buf[..len], 0, 0);
-    if !word.ok {
+    let Some(k) = text::decimal_in(&buf[..len]) else {
         complain(
             rt,
             "A number is wanted, decimal and without leading zeros.\n",
         );
         return Number::None;
-    }
-    Number::Is(word.value as usize)
+    };
+    Number::Is(k as usize)
 }
 
 // A number as a cell: no book has the greatest.
