@@ -1,13 +1,15 @@
 // A desk's refusals. 01, "Numbers given back": "the first that applies is given, and none otherwise".
 //
-// Each function tries one list of rules (specs/Rules.antt), in 01's order, for every value of its
-// types: a row of 01's table is a line here. `ok` is whether the record is sound. 11 and 13 are found
-// where a sheet is written or read.
+// Each call tries its list of rules (specs/Rules.antt) in 01's order, for every value of its types: a
+// line here for each. A rule that several calls have is a function of its own. `ok` is whether the
+// record is sound. 11 and 13 are found where a sheet is written or read.
 #![tactic(auto)]
 
-ghost use Rattle.std.specs.Prelude.{◌++◌, ◌≡◌};
-ghost use Rattle.answer.specs.Refusals.{said, first_of};
-ghost use Rattle.refusals.specs.Rules.{open_tests, write_tests, read_tests, send_tests, tray_tests, sheet_tests, turn_tests, is_next, looked_at};
+ghost use Rattle.std.specs.Prelude.{◌++◌, ◌≡◌, not, eqb, leb};
+ghost use Rattle.answer.specs.declared.Refusal.TheVariants as refusal;
+ghost use Rattle.answer.specs.Refusals.{said, first_of, refused_when};
+ghost use Rattle.sound.specs.Head.{read_waits};
+ghost use Rattle.refusals.specs.Rules.{last_turn, open_tests, write_tests, read_tests, send_tests, tray_tests, sheet_tests, turn_tests, is_next, looked_at};
 
 use answer::Refusal;
 use layout::Numbers;
@@ -25,14 +27,42 @@ pub fn open(n: u32, m: u32, own: u32, mode: u32) -> Result<(), Refusal>
     Ok(())
 }
 
+// 5.
+fn sound(ok: bool) -> Result<(), Refusal>
+    ensures { result ≡ refused_when refusal.NotSound (not ok) }
+{
+    Refusal::NotSound.when(!ok)
+}
+
+// 6.
+fn cell_below(h: Head, cell: u32) -> Result<(), Refusal>
+    ensures { result ≡ refused_when refusal.CellNotBelow (leb h.m cell) }
+{
+    Refusal::CellNotBelow.when(u32::from(h.m) <= cell)
+}
+
+// 8.
+fn no_read_waits(h: Head) -> Result<(), Refusal>
+    ensures { result ≡ refused_when refusal.ReadWaits (read_waits h) }
+{
+    Refusal::ReadWaits.when(h.wait != 0)
+}
+
+// 10.
+fn turn_to_come(h: Head) -> Result<(), Refusal>
+    ensures { result ≡ refused_when refusal.LastTurn (eqb h.turn last_turn) }
+{
+    Refusal::LastTurn.when(h.turn == u32::MAX)
+}
+
 // Write: 5, 6, 7, 8.
 pub fn write(ok: bool, h: Head, cell: u32, kind: u8) -> Result<(), Refusal>
     ensures { said (λ u. u) result ≡ first_of (write_tests ok h cell kind) }
 {
-    Refusal::NotSound.when(!ok)?;
-    Refusal::CellNotBelow.when(u32::from(h.m) <= cell)?;
+    sound(ok)?;
+    cell_below(h, cell)?;
     Refusal::BlankWritten.when(kind == 0)?;
-    Refusal::ReadWaits.when(h.wait != 0)?;
+    no_read_waits(h)?;
     Ok(())
 }
 
@@ -40,9 +70,9 @@ pub fn write(ok: bool, h: Head, cell: u32, kind: u8) -> Result<(), Refusal>
 pub fn read(ok: bool, h: Head, cell: u32) -> Result<(), Refusal>
     ensures { said (λ u. u) result ≡ first_of (read_tests ok h cell) }
 {
-    Refusal::NotSound.when(!ok)?;
-    Refusal::CellNotBelow.when(u32::from(h.m) <= cell)?;
-    Refusal::ReadWaits.when(h.wait != 0)?;
+    sound(ok)?;
+    cell_below(h, cell)?;
+    no_read_waits(h)?;
     Ok(())
 }
 
@@ -50,9 +80,9 @@ pub fn read(ok: bool, h: Head, cell: u32) -> Result<(), Refusal>
 pub fn send(ok: bool, h: Head) -> Result<(), Refusal>
     ensures { said (λ u. u) result ≡ first_of (send_tests ok h) }
 {
-    Refusal::NotSound.when(!ok)?;
+    sound(ok)?;
     Refusal::TurnElsewhere.when(!h.own_turn())?;
-    Refusal::LastTurn.when(h.turn == u32::MAX)?;
+    turn_to_come(h)?;
     Ok(())
 }
 
@@ -60,7 +90,7 @@ pub fn send(ok: bool, h: Head) -> Result<(), Refusal>
 pub fn tray(ok: bool, h: Head, size: usize) -> Result<(), Refusal>
     ensures { said (λ u. u) result ≡ first_of (tray_tests ok h size) }
 {
-    Refusal::NotSound.when(!ok)?;
+    sound(ok)?;
     Refusal::TrayLength.when(size != 398 * usize::from(h.n))?;
     Ok(())
 }
@@ -83,7 +113,7 @@ pub fn take(ok: bool, h: Head, size: usize) -> Result<(), Refusal>
 {
     tray(ok, h, size)?;
     Refusal::OwnTurn.when(h.own_turn())?;
-    Refusal::LastTurn.when(h.turn == u32::MAX)?;
+    turn_to_come(h)?;
     Ok(())
 }
 
@@ -96,12 +126,13 @@ fn is_next(h: Head, x: Numbers) -> bool
 
 // Take, of the desk q, whose turn it is: 20, 21. The sheet in its place, which is the next, has so
 // many entries.
+#[tactic(auto, using(crate::proofs::Laws::Looks::looked_so))]
 pub fn look(h: Head, tray: &[u8], q: u8) -> Result<u8, Refusal>
     ensures { said (λ n. n) result ≡ looked_at h tray.now q }
 {
     match tray::look(tray, q) {
         Place::Free => Err(Refusal::NoSheet),
         Place::Holds(x) if is_next(h, x) => Ok(x.entries),
-        _ => Err(Refusal::NotThatSheet),
+        Place::Holds(_) | Place::Spoilt => Err(Refusal::NotThatSheet),
     }
 }
