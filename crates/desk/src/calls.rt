@@ -1,5 +1,5 @@
-// What each call does to a record, where it lies: a line for each row of 01's table, and then the step.
-// A refused call changes nothing.
+// What each call does to a record, where it lies: the tests of its rules, each of which may refuse it,
+// and then the step. A refused call changes nothing.
 ghost use Rattle.std.specs.Prelude.{[], ◌≡◌, ◌<◌};
 ghost use Rattle.answer.specs.Refusals.{said};
 ghost use Rattle.desk.specs.Answers.{waited_of, settled};
@@ -112,7 +112,8 @@ impl Desk {
             self.head.wait = cell as u8 + 1;
             return Ok(Answer::Waits);
         }
-        Ok(Answer::Holds(cells::content_at(&self.kind, &self.day, cell as usize)))
+        let c = cells::content_at(&self.kind, &self.day, cell as usize);
+        Ok(Answer::Holds(c))
     }
 
     pub(crate) fn write_sheet(&mut self, buf: &mut [u8]) -> Result<Answer, Refusal>
@@ -136,7 +137,8 @@ impl Desk {
         let h = self.head;
         refusals::tray(self.is_sound(), h, tray.len())?;
         let x = sheet::read(sheet)?;
-        refusals::sheet(h, x, tray::is_free(tray, x.sender))?;
+        let free = tray::is_free(tray, x.sender);
+        refusals::sheet(h, x, free)?;
         tray::hold(tray, x.sender, sheet);
         Ok(Answer::Held)
     }
@@ -152,7 +154,7 @@ impl Desk {
             return None;
         }
         self.head.wait = 0;
-        Some(cells::content_at(&self.kind, &self.day, (h.wait - 1) as usize))
+        Some(cells::content_at(&self.kind, &self.day, usize::from(h.wait - 1)))
     }
 
     pub(crate) fn take_sheet(&mut self, tray: &mut [u8]) -> Result<Answer, Refusal>

@@ -10,8 +10,8 @@ returns-in_err-x c = deliver_bad c.args.self.now _ _ c.is_sound.ensures c.in_ok-
 
 pub returns-in_err-sheet : goal.returns-in_err-sheet
 returns-in_err-sheet c =
-    deliver_misfit c.args.self.now _ _ c.is_sound.ensures c.in_ok-tray.ensures _ c.read.ensures _ c.in_ok-x.was c.is_free.ensures c.in_err-sheet.ensures (search rules)
+    deliver_misfit c.args.self.now _ _ c.is_sound.ensures c.in_ok-tray.ensures _ c.read.ensures _ c.in_ok-x.was c.is_free-free.ensures c.in_err-sheet.ensures (search rules)
 
 pub returns : goal.returns
 returns c =
-    deliver_so c.args.self.now _ _ c.is_sound.ensures c.in_ok-tray.ensures _ c.read.ensures _ c.in_ok-x.was c.is_free.ensures c.in_ok-sheet.ensures c.hold.ensures
+    deliver_so c.args.self.now _ _ c.is_sound.ensures c.in_ok-tray.ensures _ c.read.ensures _ c.in_ok-x.was c.is_free-free.ensures c.in_ok-sheet.ensures c.hold.ensures
