@@ -1,11 +1,11 @@
 -- 02, K1: "A sheet is added at the end; other bytes stay." "when adding, 13, then 23 for the book
 -- as it would become or a length beyond its room, then 11 for room."
 -- Assumes nothing.
-use Rattle.std.specs.Prelude.{◌≡◌, ℕ, ◌+◌, ◌-◌, not, ◌||◌, List, [], ◌∷◌, ◌++◌, ltb, length, take, drop}
-use Rattle.answer.specs.Answer.{Answer, Rule, refused, answered, ◌if◌, answer, leaves}
+use Rattle.std.specs.Prelude.{◌≡◌, ℕ, ◌+◌, ◌-◌, not, ◌||◌, List, [], ◌∷◌, ◌++◌, ltb, length, take, drop, Result}
+use Rattle.answer.specs.Answer.{Answer, Rule, ◌if◌, answer, leaves}
+use Rattle.answer.specs.declared.Refusal.{Refusal}
+use Rattle.answer.specs.Refusals.{said}
 use Rattle.sheet.specs.Good.{good}
-use Rattle.book.specs.declared.Added.{Added}
-use Rattle.book.specs.declared.Added.TheVariants as added
 use Rattle.book.specs.Good.{good_book}
 
 -- "the book as it would become": the book of this length at the room's front, and the sheet behind
@@ -26,12 +26,11 @@ added_of room len s = answer (add_rules room len s) (len + length s)
 unfoldable pub room_of : List ℕ → ℕ → List ℕ → List ℕ
 room_of room len s = leaves (add_rules room len s) room (becomes room len s ++ drop (len + length s) room)
 
--- what each case of the code's enum says
-abbrev pub said_added : Added → Answer ℕ
-said_added (added.Length n) = answered n
-said_added (added.Refused k) = refused k
+-- what the code's answer says
+abbrev pub said_added : Result ℕ Refusal → Answer ℕ
+said_added = said (λ n. n)
 
 -- a call that found the room `before`, left it as `after` and answered r
-pub record Adds (before : List ℕ) (len : ℕ) (s : List ℕ) (r : Added) (after : List ℕ) : Type 0 where
+pub record Adds (before : List ℕ) (len : ℕ) (s : List ℕ) (r : Result ℕ Refusal) (after : List ℕ) : Type 0 where
   pub answers : said_added r ≡ added_of before len s
   pub room : after ≡ room_of before len s

@@ -5,47 +5,34 @@ ghost use Rattle.book.specs.Sheets.{sheets_of};
 ghost use Rattle.book.specs.Parts.{fits_before, older_of, examined_of, takes_next};
 
 use crate::{Back, inside};
+use answer::Refusal;
 use layout::Numbers;
 
+// What a pass finds in a good book that has bytes: how many sheets, and the newest one's numbers.
 #[derive(Clone, Copy)]
-pub(crate) enum Examined {
-    NotGood,
-    // A book of no bytes.
-    Empty,
-    // So many sheets, and the numbers of the newest.
-    Sheets(usize, Numbers),
+pub(crate) struct Seen {
+    pub sheets: usize,
+    pub newest: Numbers,
 }
 
-// The sheets before a place.
-#[derive(Clone, Copy)]
-pub(crate) enum Older {
-    NotGood,
-    Sheets(usize),
-}
-
-pub(crate) fn examine(book: &[u8]) -> Examined
+// None of a book of no bytes. Refusal 23.
+pub(crate) fn examine(book: &[u8]) -> Result<Option<Seen>, Refusal>
     ensures { result ≡ examined_of book.now }
 {
-    if book.len() == 0 {
-        return Examined::Empty;
+    if book.is_empty() {
+        return Ok(None);
     }
-    let Back::Sheet {
-        start,
-        end: _,
-        numbers,
-    } = crate::step_back(book, book.len())
-    else {
-        return Examined::NotGood;
-    };
-    let Older::Sheets(sheets) = sheets_before(book, start, numbers) else {
-        return Examined::NotGood;
-    };
-    Examined::Sheets(sheets + 1, numbers)
+    let last = crate::step_back(book, book.len()).ok_or(Refusal::BookNotGood)?;
+    let older = sheets_before(book, last.start, last.numbers).ok_or(Refusal::BookNotGood)?;
+    Ok(Some(Seen {
+        sheets: older + 1,
+        newest: last.numbers,
+    }))
 }
 
 // The sheets before a place, where a sheet with the newest's numbers starts: each is looked at
-// once.
-fn sheets_before(book: &[u8], place: usize, newest: Numbers) -> Older
+// once. None where they are not good.
+fn sheets_before(book: &[u8], place: usize, newest: Numbers) -> Option<usize>
     requires { place ≤ length book.now }
     ensures { result ≡ older_of newest newest.turn (sheets_of (take place book.now)) }
 {
@@ -53,22 +40,15 @@ fn sheets_before(book: &[u8], place: usize, newest: Numbers) -> Older
     let mut turn = newest.turn;
     let mut sheets = 0;
     while 0 < at {
-        let Back::Sheet {
-            start,
-            end: _,
-            numbers,
-        } = inside::tested_back(book, at)
-        else {
-            return Older::NotGood;
-        };
+        let Back { start, numbers, .. } = inside::tested_back(book, at)?;
         if !fits_before(numbers, newest, turn) {
-            return Older::NotGood;
+            return None;
         }
         at = start;
         turn = numbers.turn;
         sheets += 1;
     }
-    Older::Sheets(sheets)
+    Some(sheets)
 }
 
 // Whether a sheet may stand before one of the newest's shelf with this turn number.
@@ -77,16 +57,12 @@ fn fits_before(older: Numbers, newest: Numbers, turn: u32) -> bool
 {
     (older.desks == newest.desks)
         & (older.cells == newest.cells)
-        & ((older.turn as u64) + 1 == (turn as u64))
+        & (u64::from(older.turn) + 1 == u64::from(turn))
 }
 
 // Whether a good sheet with these numbers can be added to such a book.
-pub(crate) fn takes(seen: Examined, n: Numbers) -> bool
+pub(crate) fn takes(seen: Option<Seen>, n: Numbers) -> bool
     ensures { result ≡ takes_next seen n }
 {
-    match seen {
-        Examined::NotGood => false,
-        Examined::Empty => true,
-        Examined::Sheets(_, newest) => fits_before(newest, n, n.turn),
-    }
+    seen.is_none_or(|seen| fits_before(seen.newest, n, n.turn))
 }

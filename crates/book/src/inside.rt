@@ -9,48 +9,41 @@ use crate::Back;
 
 // From a place in the book: the sheet is tested part by part where it stands, so that the compiler
 // puts the whole of it into the loop that calls it.
-pub(crate) fn tested_back(book: &[u8], place: usize) -> Back
+pub(crate) fn tested_back(book: &[u8], place: usize) -> Option<Back>
     requires { place ≤ length book.now }
     ensures { result ≡ step_back book.now place }
 {
     if place < 12 {
-        return Back::None;
+        return None;
     }
     let t = sheet::trailer_of(&book[..place]);
     if !sheet::good_trailer(t, t.distance as usize) {
-        return Back::None;
+        return None;
     }
-    let size = (t.distance as usize) + 12;
-    if place < size {
-        return Back::None;
-    }
-    let start = place - size;
+    let start = place.checked_sub((t.distance as usize) + 12)?;
     if !sheet::good_entries(&book[start..place], t.entries, t.cells) {
-        return Back::None;
+        return None;
     }
-    Back::Sheet {
+    Some(Back {
         start,
         end: place,
         numbers: t.numbers(),
-    }
+    })
 }
 
 // From a place where a good sheet ends, or from the front: the sheet need not be tested again.
-pub(crate) fn known_back(book: &[u8], place: usize) -> Back
+pub(crate) fn known_back(book: &[u8], place: usize) -> Option<Back>
     requires { (place ≤ length book.now) × (0 < place → good (last_sheet (take place book.now)) ≡ true) }
     ensures { result ≡ step_back book.now place }
 {
     if place < 12 {
-        return Back::None;
+        return None;
     }
     let t = sheet::trailer_of(&book[..place]);
-    let size = (t.distance as usize) + 12;
-    if place < size {
-        return Back::None;
-    }
-    Back::Sheet {
-        start: place - size,
+    let start = place.checked_sub((t.distance as usize) + 12)?;
+    Some(Back {
+        start,
         end: place,
         numbers: t.numbers(),
-    }
+    })
 }

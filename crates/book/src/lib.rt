@@ -16,81 +16,47 @@ mod examined;
 mod inside;
 mod newest;
 
+use answer::Refusal;
 use content::Content;
-use examined::Examined;
 use layout::Numbers;
 
-// What a step back gives: a sheet, by where it starts and ends in the book, with its trailer's
-// numbers; or none.
+// A sheet that a step back gives, by where it starts and ends in the book, with its trailer's
+// numbers.
 #[derive(Clone, Copy)]
-pub enum Back {
-    Sheet {
-        start: usize,
-        end: usize,
-        numbers: Numbers,
-    },
-    None,
+pub struct Back {
+    pub start: usize,
+    pub end: usize,
+    pub numbers: Numbers,
 }
 
-// How many sheets a book has.
+// What a lookup finds: an entry's content, and its sheet's turn number.
 #[derive(Clone, Copy)]
-pub enum Counted {
-    Sheets(usize),
-    Refused(u8),
-}
-
-// What a lookup finds: blank, which has no number; or an entry's content, and its sheet's turn
-// number.
-#[derive(Clone, Copy)]
-pub enum Found {
-    Blank,
-    Entry(Content, u32),
-    Refused(u8),
-}
-
-#[derive(Clone, Copy)]
-pub enum Added {
-    // The book's new length.
-    Length(usize),
-    Refused(u8),
+pub struct Found {
+    pub content: Content,
+    pub turn: u32,
 }
 
 // One step back from a place: the good sheet that ends just there. "A step back gives none at the
 // front or where no good sheet ends", nor beyond the book.
-pub fn step_back(book: &[u8], place: usize) -> Back
+pub fn step_back(book: &[u8], place: usize) -> Option<Back>
     ensures { result ≡ step_back book.now place }
 {
-    if book.len() < place {
-        return Back::None;
-    }
-    let t = sheet::trailer_of(&book[..place]);
-    let size = (t.distance as usize) + 12;
-    if place < size {
-        return Back::None;
-    }
-    let start = place - size;
-    match sheet::read(&book[start..place]) {
-        Ok(numbers) => Back::Sheet {
-            start,
-            end: place,
-            numbers,
-        },
-        Err(_) => Back::None,
-    }
+    let up_to = book.get(..place)?;
+    let size = (sheet::trailer_of(up_to).distance as usize) + 12;
+    let start = place.checked_sub(size)?;
+    let numbers = sheet::read(&up_to[start..]).ok()?;
+    Some(Back {
+        start,
+        end: place,
+        numbers,
+    })
 }
 
 // Where a reader at this place stands after a step: at the start of the sheet, or where it was.
-pub fn place_after(step: Back, place: usize) -> usize
+pub fn place_after(step: Option<Back>, place: usize) -> usize
     ensures { result ≡ place_after step place }
 {
-    match step {
-        Back::Sheet {
-            start,
-            end: _,
-            numbers: _,
-        } => start,
-        Back::None => place,
-    }
+    step.map_or(place, |sheet| sheet.start)
 }
 
 // "A book is good if every sheet is, all have the same desks and cells, and turn numbers rise by
@@ -98,53 +64,36 @@ pub fn place_after(step: Back, place: usize) -> usize
 pub fn good(book: &[u8]) -> bool
     ensures { result ≡ good_book book.now }
 {
-    match examined::examine(book) {
-        Examined::NotGood => false,
-        Examined::Empty => true,
-        Examined::Sheets(_, _) => true,
-    }
+    examined::examine(book).is_ok()
 }
 
 // How many sheets there are. Refusal 23.
-pub fn count(book: &[u8]) -> Counted
+pub fn count(book: &[u8]) -> Result<usize, Refusal>
     ensures { said_count result ≡ count_of book.now }
 {
-    match examined::examine(book) {
-        Examined::NotGood => Counted::Refused(23),
-        Examined::Empty => Counted::Sheets(0),
-        Examined::Sheets(sheets, _) => Counted::Sheets(sheets),
-    }
+    Ok(examined::examine(book)?.map_or(0, |seen| seen.sheets))
 }
 
 // "A lookup gives the newest entry for a cell with its sheet's turn number, or blank if no sheet
-// has one". Refusals 23, 6.
-pub fn lookup(book: &[u8], cell: u32) -> Found
+// has one": blank, which has no number, is none. Refusals 23, 6.
+pub fn lookup(book: &[u8], cell: u32) -> Result<Option<Found>, Refusal>
     ensures { said_found result ≡ lookup_of book.now cell }
 {
-    match examined::examine(book) {
-        Examined::NotGood => Found::Refused(23),
-        Examined::Empty => newest::find(book, cell, 64),
-        Examined::Sheets(_, numbers) => newest::find(book, cell, numbers.cells),
-    }
+    let cells = examined::examine(book)?.map_or(64, |seen| seen.newest.cells);
+    Refusal::CellNotBelow.when(u32::from(cells) <= cell)?;
+    Ok(newest::entry(book, cell as u8))
 }
 
 // "A sheet is added at the end; other bytes stay": at the end of the book of this length, which
-// stands at the front of its room. Refusals 13, 23, 11.
-pub fn add(room: &mut [u8], len: usize, s: &[u8]) -> Added
+// stands at the front of its room; its new length. Refusals 13, 23, 11.
+pub fn add(room: &mut [u8], len: usize, s: &[u8]) -> Result<usize, Refusal>
     ensures { Adds room.old len s.now result room.new }
 {
-    let Ok(numbers) = sheet::read(s) else {
-        return Added::Refused(13);
-    };
-    if room.len() < len {
-        return Added::Refused(23);
-    }
-    if !examined::takes(examined::examine(&room[..len]), numbers) {
-        return Added::Refused(23);
-    }
-    if room.len() - len < s.len() {
-        return Added::Refused(11);
-    }
+    let numbers = sheet::read(s)?;
+    Refusal::BookNotGood.when(room.len() < len)?;
+    let seen = examined::examine(&room[..len])?;
+    Refusal::BookNotGood.when(!examined::takes(seen, numbers))?;
+    Refusal::BufferShort.when(room.len() - len < s.len())?;
     laying::put(room, len, s);
-    Added::Length(len + s.len())
+    Ok(len + s.len())
 }

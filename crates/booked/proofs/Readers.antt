@@ -23,8 +23,8 @@ use Rattle.booked.proofs.Stepping.{steps_through, steps_once}
 reads : (book : Bor (List ℕ)) {place : ℕ} {ss : List (List ℕ)} → GivesBack step_back place_after book.now place ss → ReadsBack (record { book = book; place = place }) ss
 reads book {place} (steps.none_comes e) =
     none_comes {after = record { book = book; place = place }} (record { gives = sym e; book = refl; place = refl })
-reads book (steps.one_back {start = start} e further) =
-    one_back {after = record { book = book; place = start }} (record { gives = sym e; book = refl; place = refl }) (reads book further)
+reads book (steps.one_back {s = s} e further) =
+    one_back {after = record { book = book; place = s.start }} (record { gives = sym e; book = refl; place = refl }) (reads book further)
 
 -- and they give what it is given
 gives : {r : Reader} {ss : List (List ℕ)} → ReadsBack r ss → GivesBack step_back place_after r.book.now r.place ss

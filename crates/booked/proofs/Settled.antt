@@ -10,10 +10,10 @@ use Prim.Native.Nat.{ℕ, ◌+◌}
 use lib.Dec.{ltb}
 use lib.ListN.{length, drop, take-append-drop}
 use borrow.Author.Tests.{ltb-true, ltb-false}
+use Rattle.std.specs.Prelude.{Option, Some, None}
 use Rattle.answer.specs.Answer.{Answer, refused, answered}
 use Rattle.sheet.specs.Good.{good}
 use Rattle.book.specs.declared.Back.{Back}
-use Rattle.book.specs.declared.Back.TheVariants.{Sheet, None}
 use Rattle.book.specs.Sheets.{sheets_of}
 use Rattle.book.specs.Good.{good_book}
 use Rattle.book.specs.Counting.{count_of}
@@ -52,15 +52,15 @@ count_is count counts b = by_test (good_book b) refl
 
 -- ---- a step
 
-step_is : (step : List ℕ → ℕ → Back) → StepGives step → StepNone step → (b : List ℕ) (place : ℕ) → step b place ≡ step_back b place
+step_is : (step : List ℕ → ℕ → Option Back) → StepGives step → StepNone step → (b : List ℕ) (place : ℕ) → step b place ≡ step_back b place
 step_is step gives Gives-none b place = by_step (step_back b place) refl
   where
-    by_step : (r : Back) → step_back b place ≡ r → step b place ≡ step_back b place
+    by_step : (r : Option Back) → step_back b place ≡ r → step b place ≡ step_back b place
     by_step None e = (Gives-none b place).1 ((step_none b place).0 e) ∙ sym e
-    by_step (Sheet start end n) e = (gives b place start end n).1 ((step_gives b place start end n).0 e) ∙ sym e
+    by_step (Some s) e = (gives b place s).1 ((step_gives b place s).0 e) ∙ sym e
 
-next_is : (next : Back → ℕ → ℕ) → AfterAStep next → (r : Back) (place : ℕ) → next r place ≡ place_after r place
-next_is next after (Sheet start end n) place = after.at_its_start start end n place
+next_is : (next : Option Back → ℕ → ℕ) → AfterAStep next → (r : Option Back) (place : ℕ) → next r place ≡ place_after r place
+next_is next after (Some s) place = after.at_its_start s place
 next_is next after None place = after.where_it_was place
 
 -- ---- a lookup

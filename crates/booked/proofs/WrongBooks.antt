@@ -10,6 +10,7 @@ use Prim.Native.Nat.{ℕ}
 use native.Mathlib.Omega.{arith}
 use lib.IntN.{pos}
 use lib.ListN.{length, get_or, replicate}
+use Rattle.std.proofs.lemmas.Option.{none-some}
 use Rattle.answer.specs.Answer.{Answer, refused, answered}
 use Rattle.answer.proofs.Laws.{refused_is_not_answered}
 use Rattle.content.specs.declared.Content.{Content}
@@ -35,7 +36,6 @@ use Rattle.booked.specs.WrongBooks.{day_sheet, open_sheet, empty1, empty2, empty
 use Rattle.booked.proofs.Laws.Newest.{entry_is_not_blank}
 use Rattle.booked.proofs.Laws.Computing.{computing}
 use Rattle.booked.proofs.OneList.{good_exactly}
-use Rattle.booked.proofs.Stepping.{sheet_is_not_none}
 use Rattle.booked.proofs.Settled.{found_newest}
 
 -- ---- a test of a book
@@ -60,20 +60,20 @@ untested_count part = refused_is_not_answered 23 2 (sym ((part.not_good (day_she
 
 beyond_gives : StepGives step_beyond → ⊥
 unfolding computing step_beyond
-beyond_gives part = let ends = (part day_sheet 19 0 19 (numbers_in day_sheet)).0 refl in omega (arith, ends.0.in_book)
+beyond_gives part = let ends = (part day_sheet 19 (record { start = 0; end = 19; numbers = numbers_in day_sheet })).0 refl in omega (arith, ends.0.in_book)
 
 beyond_none : StepNone step_beyond → ⊥
 unfolding computing step_beyond
 beyond_none part =
-    sheet_is_not_none 0 19 (numbers_in day_sheet) ((part day_sheet 19).1 (λ start ends. omega (arith, ends.in_book)))
+    none-some _ (sym ((part day_sheet 19).1 (λ start ends. omega (arith, ends.in_book))))
 
 at_front : NoneAtTheFront step_at_front → ⊥
 unfolding step_at_front
-at_front part = sheet_is_not_none 0 0 (numbers_in []) (part [])
+at_front part = none-some _ (sym (part []))
 
 stays_after : AfterAStep stays → ⊥
 unfolding stays
-stays_after part = omega (arith, part.at_its_start 0 18 (numbers_in day_sheet) 18)
+stays_after part = omega (arith, part.at_its_start (record { start = 0; end = 18; numbers = numbers_in day_sheet }) 18)
 
 to_front_is_out : AfterAStep to_front → ⊥
 unfolding to_front
@@ -82,7 +82,7 @@ to_front_is_out part = omega (arith, part.where_it_was 18)
 -- it gives the sheet again and again
 no_end : {place : ℕ} {ss : List (List ℕ)} → GivesBack step_back stays day_sheet place ss → place ≡ 18 → ⊥
 unfolding computing stays
-no_end (none_comes e) at = sheet_is_not_none 0 18 (numbers_in day_sheet) (ap (step_back day_sheet) (sym at) ∙ e)
+no_end (none_comes e) at = none-some _ (sym (ap (step_back day_sheet) (sym at) ∙ e))
 no_end (one_back e further) at = no_end further at
 
 stays_there : StepsThrough step_back stays → ⊥

@@ -1,7 +1,7 @@
 -- The statements settle the calls: whatever meets them is document 02's, answer for answer and byte
 -- for byte. proofs/Settled.antt proves it.
 -- Assumes nothing.
-use Rattle.std.specs.Prelude.{◌≡◌, Bool, List, ℕ}
+use Rattle.std.specs.Prelude.{◌≡◌, Bool, List, ℕ, Option}
 use Rattle.answer.specs.Answer.{Answer}
 use Rattle.book.specs.declared.Back.{Back}
 use Rattle.book.specs.Good.{good_book}
@@ -17,8 +17,8 @@ use Rattle.booked.specs.Adding.{Adding, AddedTo, AddRefused, AddsIf}
 pub record Settled : Type 0 where
   pub test : (test : List ℕ → Bool) → GoodExactly test → (b : List ℕ) → test b ≡ good_book b
   pub count : (count : List ℕ → Answer ℕ) → CountsThem count → (b : List ℕ) → count b ≡ count_of b
-  pub step : (step : List ℕ → ℕ → Back) → StepGives step → StepNone step → (b : List ℕ) (place : ℕ) → step b place ≡ step_back b place
-  pub next : (next : Back → ℕ → ℕ) → AfterAStep next → (r : Back) (place : ℕ) → next r place ≡ place_after r place
+  pub step : (step : List ℕ → ℕ → Option Back) → StepGives step → StepNone step → (b : List ℕ) (place : ℕ) → step b place ≡ step_back b place
+  pub next : (next : Option Back → ℕ → ℕ) → AfterAStep next → (r : Option Back) (place : ℕ) → next r place ≡ place_after r place
   pub look : (look : List ℕ → ℕ → Answer LastSet) → LookupRefuses look → LastSheetWith look → (b : List ℕ) (cell : ℕ) → look b cell ≡ lookup_of b cell
   pub add : (add : Adding) → AddsIf add → (room : List ℕ) (len : ℕ) (s : List ℕ) → add.answers room len s ≡ added_of room len s
   pub room : (add : Adding) → AddsIf add → AddedTo add → AddRefused add

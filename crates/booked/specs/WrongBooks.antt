@@ -2,12 +2,11 @@
 -- of which a statement of this crate is false. So each statement says something of the calls.
 -- proofs/WrongBooks.antt proves it.
 -- Assumes nothing.
-use Rattle.std.specs.Prelude.{Bool, true, false, not, cond, ◌&&◌, ◌||◌, List, [], ◌∷◌, ◌++◌, ℕ, ◌+◌, ◌-◌, eqb, leb, ltb, pos, length, take, drop, replicate}
+use Rattle.std.specs.Prelude.{Bool, true, false, not, cond, ◌&&◌, ◌||◌, List, [], ◌∷◌, ◌++◌, ℕ, ◌+◌, ◌-◌, eqb, leb, ltb, pos, length, take, drop, replicate, Option, Some, None}
 use Rattle.answer.specs.Answer.{Answer, refused, answered, accepted, ◌if◌, answer}
 use Rattle.content.specs.declared.Content.TheVariants.{Day}
 use Rattle.sheet.specs.Good.{good}
 use Rattle.book.specs.declared.Back.{Back}
-use Rattle.book.specs.declared.Back.TheVariants.{Sheet, None}
 use Rattle.book.specs.Sheets.{last_start, last_sheet, sheets_of}
 use Rattle.book.specs.Good.{numbers_in, every_sheet, good_book}
 use Rattle.book.specs.Stepping.{step_back, place_after}
@@ -76,21 +75,21 @@ count_untested b = answered (length (sheets_of b))
 -- ---- wrong steps
 
 -- it does not look whether the place is in the book
-unfoldable pub step_beyond : List ℕ → ℕ → Back
+unfoldable pub step_beyond : List ℕ → ℕ → Option Back
 step_beyond b place =
     let up_to = take place b in
-    cond (good (last_sheet up_to)) (Sheet (last_start up_to) place (numbers_in (last_sheet up_to))) None
+    cond (good (last_sheet up_to)) (Some (record { start = last_start up_to; end = place; numbers = numbers_in (last_sheet up_to) })) None
 
 -- at the front it gives a part of no bytes
-unfoldable pub step_at_front : List ℕ → ℕ → Back
-step_at_front b place = cond (eqb place 0) (Sheet 0 0 (numbers_in [])) (step_back b place)
+unfoldable pub step_at_front : List ℕ → ℕ → Option Back
+step_at_front b place = cond (eqb place 0) (Some (record { start = 0; end = 0; numbers = numbers_in [] })) (step_back b place)
 
 -- after a sheet the reader stays where it was
-unfoldable pub stays : Back → ℕ → ℕ
+unfoldable pub stays : Option Back → ℕ → ℕ
 stays step place = place
 
 -- where none comes the reader goes to the front
-unfoldable pub to_front : Back → ℕ → ℕ
+unfoldable pub to_front : Option Back → ℕ → ℕ
 to_front step place = place_after step 0
 
 -- ---- wrong lookups

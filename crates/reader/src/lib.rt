@@ -16,20 +16,20 @@ pub struct Reader<'a> {
     pub place: usize,
 }
 
-// A reader of this very slice. "A book opens at its end".
-pub fn opened<'a>(book: &'a [u8]) -> Reader<'a>
-    ensures { result ≡ at_end book.entry }
-{
-    Reader {
-        book,
-        place: book.len(),
-    }
-}
-
 impl<'a> Reader<'a> {
+    // A reader of this very slice. "A book opens at its end".
+    pub fn opened(book: &'a [u8]) -> Reader<'a>
+        ensures { result ≡ at_end book.entry }
+    {
+        Reader {
+            book,
+            place: book.len(),
+        }
+    }
+
     // One step back. "gives back each sheet as the very part of the book that holds it": by where
     // it starts and ends there. The reader then stands at its start, or where it was if none came.
-    pub fn back<'s>(&'s mut self) -> Back
+    pub fn back(&mut self) -> Option<Back>
         ensures { StepsBack self.old result self.new }
     {
         let step = book::step_back(self.book, self.place);
@@ -40,9 +40,8 @@ impl<'a> Reader<'a> {
 
 // One step back from a place, forged or not, by a reader that stands there. No reader is in the
 // contract.
-pub fn step_from(book: &[u8], place: usize) -> Back
+pub fn step_from(book: &[u8], place: usize) -> Option<Back>
     ensures { result ≡ step_back book.now place }
 {
-    let mut reader = Reader { book, place };
-    reader.back()
+    Reader { book, place }.back()
 }

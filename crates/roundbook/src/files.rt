@@ -1,7 +1,5 @@
 // The book's file, replaced whole. What is to stand in it is written into a file beside it, of its
 // name and `.new`, which is made before the book is read: while it is there, nobody else adds.
-ghost use Rattle.std.specs.Prelude.{◌≤◌, length};
-
 use crate::arguments;
 use std::fs::{OpenFile, OpenOptions};
 use std::io::Write;
@@ -9,23 +7,20 @@ use std::rt::{Env, Files};
 use std::str::from_utf8;
 use std::{fs, io};
 
-// The name of that file: argument 3, and `.new` behind it; none where it has no room.
-fn new_name(rt: &impl Env, buf: &mut [u8]) -> usize
-    ensures { result ≤ length buf.new }
-{
-    let len = arguments::argument(rt, 3, buf);
-    if buf.len() - len < 4 {
-        return 0;
-    }
-    laying::put(buf, len, b".new");
-    len + 4
+// The name of that file: argument 3, and `.new` behind it; no bytes where it has no room.
+fn new_name<'a>(rt: &impl Env, buf: &'a mut [u8]) -> &'a [u8] {
+    let len = arguments::argument(rt, 3, buf).len();
+    let Some(end) = buf.get_mut(len..len + 4) else {
+        return &[];
+    };
+    end.copy_from_slice(b".new");
+    &buf[..len + 4]
 }
 
 // Makes it, and answers it; none where that failed, and then a line says why.
 pub(crate) fn hold<R: Env + Files + Eprint + Alloc>(rt: &R) -> Option<R::File> {
     let mut buf = [0u8; 4096];
-    let len = new_name(rt, &mut buf);
-    let name = word::name_of(rt, &buf[..len])?;
+    let name = word::name_of(rt, new_name(rt, &mut buf))?;
     match OpenOptions::new()
         .write(true)
         .create_new(true)
@@ -39,8 +34,7 @@ pub(crate) fn hold<R: Env + Files + Eprint + Alloc>(rt: &R) -> Option<R::File> {
 // Takes it away again: the book stays as it is.
 pub(crate) fn let_go(rt: &(impl Env + Files)) {
     let mut buf = [0u8; 4096];
-    let len = new_name(rt, &mut buf);
-    if let Ok(name) = from_utf8(&buf[..len]) {
+    if let Ok(name) = from_utf8(new_name(rt, &mut buf)) {
         let _ = fs::remove_file(rt, name);
     }
 }
@@ -76,11 +70,12 @@ pub(crate) fn replace<R: Env + Files + Eprint + Alloc>(
 }
 
 fn renamed(rt: &(impl Env + Files)) -> io::Result<()> {
-    let mut buf = [0u8; 4096];
-    let len = new_name(rt, &mut buf);
-    let mut book = [0u8; 4096];
-    let size = arguments::argument(rt, 3, &mut book);
-    match (from_utf8(&buf[..len]), from_utf8(&book[..size])) {
+    let mut new = [0u8; 4096];
+    let mut old = [0u8; 4096];
+    match (
+        from_utf8(new_name(rt, &mut new)),
+        from_utf8(arguments::argument(rt, 3, &mut old)),
+    ) {
         (Ok(new), Ok(old)) => fs::rename(rt, new, old),
         _ => Err(io::Error::from(io::ErrorKind::InvalidFilename)),
     }

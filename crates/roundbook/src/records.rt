@@ -8,49 +8,88 @@
 //     a  length of the book (8), of the sheet (2), of the room (4), the sheet, the room:
 //                                              adding; then, in hexadecimal, the room afterwards
 // A record of another letter, or one that is cut short, ends the run.
-use crate::{answers, slices};
+ghost use Rattle.std.specs.Prelude.{◌+◌, ◌<◌, ◌≤◌, length, OnSome};
+
+use crate::answers;
 use std::io;
 
-fn byte_at(s: &[u8], at: usize) -> u8 {
-    if at < s.len() { s[at] } else { 0 }
+#[derive(Drop)]
+enum Record<'a> {
+    Sheets(&'a [u8]),
+    Count(&'a [u8]),
+    Lookup {
+        cell: u8,
+        book: &'a [u8],
+    },
+    Back {
+        place: usize,
+        book: &'a [u8],
+    },
+    Add {
+        len: usize,
+        sheet: &'a [u8],
+        room: &'a mut [u8],
+    },
 }
 
-// Numbers of 4 and of 8 bytes at the front.
-fn number(s: &[u8]) -> u32 {
-    u32::from_le_bytes([byte_at(s, 0), byte_at(s, 1), byte_at(s, 2), byte_at(s, 3)])
+// What is left of the input. Each method takes its front off, and gives none where it is too short.
+#[derive(Drop)]
+struct Records<'a> {
+    rest: &'a mut [u8],
 }
 
-fn long_number(s: &[u8]) -> usize {
-    joined(number(s), number(slices::part(s, 4, 8)))
-}
-
-fn joined(low: u32, high: u32) -> usize {
-    (low as usize) + 4294967296 * (high as usize)
-}
-
-// How many bytes stand before a book in a record of this letter; 0 for another letter.
-fn head(letter: u8) -> usize {
-    match letter {
-        b's' | b'c' => 5,
-        b'l' => 6,
-        b'b' => 13,
-        _ => 0,
+impl<'a> Records<'a> {
+    // So many bytes.
+    fn bytes(&mut self, n: usize) -> Option<&'a mut [u8]>
+        ensures { OnSome result (length self.new.rest.now + n ≤ length self.old.rest.now) }
+    {
+        self.rest.split_off_mut(..n)
     }
-}
 
-// One call on a book, which stands behind the call's own numbers.
-fn say_call(rt: &impl Print, record: &[u8], book: &[u8]) {
-    let letter = byte_at(record, 0);
-    if letter == b's' {
-        answers::say_sheets(rt, book);
-        answers::say(rt, b"end\n");
-    } else if letter == b'c' {
-        answers::say_count(rt, book::count(book));
-    } else if letter == b'l' {
-        answers::say_found(rt, book::lookup(book, byte_at(record, 1) as u32));
-    } else {
-        let place = long_number(slices::part(record, 1, 9));
-        answers::say_back(rt, reader::step_from(book, place));
+    // The bytes of a number.
+    fn array<const N: usize>(&mut self) -> Option<[u8; N]>
+        ensures { OnSome result (length self.new.rest.now + N ≤ length self.old.rest.now) }
+    {
+        self.bytes(N)?.first_chunk().copied()
+    }
+
+    // A book, behind its length.
+    fn book(&mut self) -> Option<&'a [u8]>
+        ensures { OnSome result (length self.new.rest.now ≤ length self.old.rest.now) }
+    {
+        let len = u32::from_le_bytes(self.array()?);
+        let book = self.bytes(len as usize)?;
+        Some(book)
+    }
+
+    // The record at the front, or none where the run ends.
+    fn next(&mut self) -> Option<Record<'a>>
+        ensures { OnSome result (length self.new.rest.now < length self.old.rest.now) }
+    {
+        let [letter] = self.array::<1>()?;
+        match letter {
+            b's' => Some(Record::Sheets(self.book()?)),
+            b'c' => Some(Record::Count(self.book()?)),
+            b'l' => {
+                let [cell] = self.array::<1>()?;
+                let book = self.book()?;
+                Some(Record::Lookup { cell, book })
+            }
+            b'b' => {
+                let place = usize::from_le_bytes(self.array()?);
+                let book = self.book()?;
+                Some(Record::Back { place, book })
+            }
+            b'a' => {
+                let len = usize::from_le_bytes(self.array()?);
+                let size = u16::from_le_bytes(self.array()?);
+                let most = u32::from_le_bytes(self.array()?);
+                let sheet = self.bytes(size as usize)?;
+                let room = self.bytes(most as usize)?;
+                Some(Record::Add { len, sheet, room })
+            }
+            _ => None,
+        }
     }
 }
 
@@ -60,86 +99,38 @@ fn say_hex(rt: &impl Print, room: &[u8]) {
     }
 }
 
-fn say_adding(rt: &impl Print, room: &mut [u8], len: usize, s: &[u8]) {
-    let added = book::add(room, len, s);
-    answers::say_added(rt, added);
-    answers::say(rt, b" ");
-    say_hex(rt, room);
-    answers::say(rt, b"\n");
-}
-
-// The sum of a record's lengths, or 0 where that is more than there is.
-fn size(head: usize, one: usize, other: usize, most: usize) -> usize {
-    if most < head {
-        return 0;
-    }
-    if most - head < one {
-        return 0;
-    }
-    if most - head - one < other {
-        return 0;
-    }
-    head + one + other
-}
-
-// The record that adds, at the front: its size, or 0. The sheet is copied, since it stands in one
-// lent slice with the room.
-fn play_adding(rt: &impl Print, rest: &mut [u8]) -> usize {
-    let len = long_number(slices::part(rest, 1, 9));
-    let sheet = usize::from(u16::from_le_bytes([byte_at(rest, 9), byte_at(rest, 10)]));
-    let room = number(slices::part(rest, 11, 15)) as usize;
-    let end = size(15, sheet, room, rest.len());
-    if end == 0 {
-        return 0;
-    }
-    let from = 15 + sheet;
-    let mut s = [0u8; 65536];
-    laying::put(&mut s, 0, slices::part(rest, 15, from));
-    say_adding(
-        rt,
-        slices::part_mut(rest, from, end),
-        len,
-        slices::part(&s, 0, sheet),
-    );
-    end
-}
-
-// The record at the front: its size, or 0 where the run ends.
-fn play_first(rt: &impl Print, rest: &mut [u8]) -> usize {
-    let letter = byte_at(rest, 0);
-    if letter == b'a' {
-        return play_adding(rt, rest);
-    }
-    let front = head(letter);
-    if front < 4 {
-        return 0;
-    }
-    let book = number(slices::part(rest, front - 4, front)) as usize;
-    let end = size(front, book, 0, rest.len());
-    if end == 0 {
-        return 0;
-    }
-    say_call(rt, rest, slices::part(rest, front, end));
-    end
-}
-
-// All records.
-fn play_all(rt: &impl Print, input: &mut [u8]) {
-    let mut at = 0;
-    while at < input.len() {
-        let more = play_first(rt, &mut input[at..]);
-        if more == 0 {
-            return;
+// The call that a record is, made.
+fn play_one(rt: &impl Print, record: Record) {
+    match record {
+        Record::Sheets(book) => {
+            answers::say_sheets(rt, book);
+            let _ = println!(rt; "end");
         }
-        if input.len() - at < more {
-            return;
+        Record::Count(book) => {
+            answers::say_count(rt, book::count(book));
         }
-        at += more;
+        Record::Lookup { cell, book } => {
+            answers::say_found(rt, book::lookup(book, u32::from(cell)));
+        }
+        Record::Back { place, book } => {
+            answers::say_back(rt, reader::step_from(book, place));
+        }
+        Record::Add { len, sheet, room } => {
+            answers::say_added(rt, book::add(room, len, sheet));
+            let _ = print!(rt; " ");
+            say_hex(rt, room);
+            let _ = println!(rt);
+        }
     }
 }
 
 // A read that fails is taken for the input's end.
 pub(crate) fn play(rt: &(impl io::Input + Print), room: &mut [u8]) {
     let (len, _) = word::read_all(&mut rt.reader(), room);
-    play_all(rt, slices::part_mut(room, 0, len));
+    let mut records = Records {
+        rest: &mut room[..len],
+    };
+    while let Some(record) = records.next() {
+        play_one(rt, record);
+    }
 }

@@ -1,149 +1,121 @@
 -- Laws of the calls (specs/Counting.antt, specs/Lookup.antt, specs/Adding.antt), by what one pass
 -- through the book finds.
---   told_bad, told_empty, told_sheets      what it says of the book
---   goods, counts, finds, lookups, addings sets for `search`: what each call knows at each of its returns, and what it answers
+--   told_bad, told_good            what it says of the book
+--   counted, cells_are             how many sheets and cells the code takes from it
+--   lookup_answers                 a lookup, by them
+--   add_not_good .. add_laid      what `add` answers and leaves, by what it knows at each of its returns
 -- Assumes nothing.
 use mathlib.Core.Path.{◌≡◌, refl, sym, ap, ◌∙◌}
-use mathlib.Core.Bool.{Bool, true, false, cond, not, ◌&&◌, and-true, and-false}
+use mathlib.Core.Bool.{Bool, true, false, not, ◌&&◌, and-true, and-false}
 use mathlib.Core.List.{List, [], ◌∷◌}
-use Prim.Native.Nat.{ℕ, ◌+◌, ◌-◌, ◌<◌, ◌≤◌}
+use Prim.Native.Nat.{ℕ, ◌+◌, ◌-◌, ◌≤◌}
 use native.Mathlib.Omega.{arith}
-use lib.Dec.{eqb, ltb}
+use lib.Dec.{eqb, leb, ltb}
 use lib.ListN.{length, take}
-use borrow.Author.Tests.{lt-ltb, le-ltb, not-true, not-false}
-use Rattle.answer.specs.Answer.{refused, answered}
+use borrow.Author.Tests.{lt-ltb, le-ltb, leb-true, leb-false, ltb-false, not-true, not-false}
+use Rattle.std.specs.Prelude.{Option, Result, Ok, Err, MatchOption, IsErrAnd}
+use Rattle.answer.specs.Answer.{Answer, refused, answered}
+use Rattle.answer.specs.declared.Refusal.{Refusal}
+use Rattle.answer.specs.declared.Refusal.TheVariants as refusal
+use Rattle.answer.specs.Refusals.{number_of, refused_when}
+use Rattle.answer.proofs.Refusals.{when_went_on, when_refused}
 use Rattle.layout.specs.declared.Numbers.{Numbers}
 use Rattle.laying.specs.Laying.{laid_over}
 use Rattle.laying.proofs.Laws.{laid}
 use Rattle.numbers.proofs.Tests.{and_left, tested}
-use Rattle.std.specs.Prelude.{Result, Ok, Err}
-use Rattle.answer.specs.declared.Refusal.{Refusal}
 use Rattle.sheet.specs.Good.{good}
-use Rattle.sheet.specs.Reading.{reading_of, said_read}
-use Rattle.sheet.proofs.Laws.Reading.{said_good, said_bad}
-use Rattle.book.specs.declared.examined.Examined.{Examined}
-use Rattle.book.specs.declared.examined.Examined.TheVariants as examined
-use Rattle.book.specs.declared.Added.TheVariants as added
+use Rattle.sheet.specs.Reading.{Sheet, reading_of, said_read}
+use Rattle.sheet.proofs.Laws.Reading.{bad_read, said_good, said_bad}
+use Rattle.book.specs.declared.examined.Seen.{Seen}
 use Rattle.book.specs.declared.Found.{Found}
 use Rattle.book.specs.Sheets.{sheets_of}
 use Rattle.book.specs.Good.{numbers_in, every_sheet, good_sheets, good_book}
-use Rattle.book.specs.Counting.{count_of}
-use Rattle.book.specs.Lookup.{LastSet, blank, entry, newest, cells_of, lookup_of, said_found}
+use Rattle.book.specs.Counting.{count_of, said_count}
+use Rattle.book.specs.Lookup.{LastSet, blank, entry, newest, cells_of, lookup_of, last_set, said_found}
 use Rattle.book.specs.Adding.{becomes, added_of, room_of, Adds}
-use Rattle.book.specs.Parts.{fits_before, good_before, sheets_found, examined_of, takes_next, found_of, find_of}
+use Rattle.book.specs.Parts.{fits_before, good_before, sheets_found, examined_of, takes_next, found_of}
 use Rattle.book.proofs.Laws.Good.{good_is_before, good_behind}
+
+-- what an exit by `?` returns
+pub passed_on : {A : Type 0} (q : Result A Refusal) (r : Refusal) → IsErrAnd q (λ e. e ≡ r) → q ≡ Err r
+passed_on (Ok a) r h = absurd h
+passed_on (Err e) r h = ap Err h
 
 -- ---- what a pass says of the book
 
-module _ (b : List ℕ) (x : Examined) (is : x ≡ examined_of b) where
-  by_good : (P : Type 0) → (good_book b ≡ true → x ≡ sheets_found (sheets_of b) → P) → (good_book b ≡ false → x ≡ examined.NotGood → P) → P
+module _ (b : List ℕ) (x : Result (Option Seen) Refusal) (is : x ≡ examined_of b) where
+  by_good : (P : Type 0) → (good_book b ≡ true → x ≡ Ok (sheets_found (sheets_of b)) → P) → (good_book b ≡ false → x ≡ Err refusal.BookNotGood → P) → P
   by_good P yes_then no_then = by_test (good_book b) refl
     where
       by_test : (g : Bool) → good_book b ≡ g → P
       by_test true g = yes_then g (is ∙ rw g)
       by_test false g = no_then g (is ∙ rw g)
 
-  pub told_bad : x ≡ examined.NotGood → good_book b ≡ false
-  told_bad e = by_good (good_book b ≡ false) (λ g f. absurd (apart (sheets_of b) (sym e ∙ f))) (λ g f. g)
-    where
-      apart : (ss : List (List ℕ)) → examined.NotGood ≡ sheets_found ss → ⊥
-      apart [] f = let z : ◌≡◌ {A = ℕ} 0 1 = cc in omega arith
-      apart (s ∷ ss) f = let z : ◌≡◌ {A = ℕ} 0 1 = cc in omega arith
+  pub told_bad : (r : Refusal) → x ≡ Err r → (good_book b ≡ false) × (r ≡ refusal.BookNotGood)
+  told_bad r e =
+      by_good ((good_book b ≡ false) × (r ≡ refusal.BookNotGood))
+      (λ g f. let same = sym e ∙ f in let z : ◌≡◌ {A = ℕ} 0 1 = cc in absurd (omega arith))
+      (λ g f. let same = sym e ∙ f in (g, cc))
 
-  pub told_empty : x ≡ examined.Empty → (good_book b ≡ true) × (sheets_of b ≡ [])
-  told_empty e = by_good ((good_book b ≡ true) × (sheets_of b ≡ [])) (λ g f. (g, none (sheets_of b) (sym e ∙ f))) (λ g f. let same = sym e ∙ f in let z : ◌≡◌ {A = ℕ} 0 1 = cc in absurd (omega arith))
-    where
-      none : (ss : List (List ℕ)) → examined.Empty ≡ sheets_found ss → ss ≡ []
-      none [] f = refl
-      none (s ∷ ss) f = let z : ◌≡◌ {A = ℕ} 0 1 = cc in absurd (omega arith)
+  pub told_good : (o : Option Seen) → x ≡ Ok o → (good_book b ≡ true) × (o ≡ sheets_found (sheets_of b))
+  told_good o e =
+      by_good ((good_book b ≡ true) × (o ≡ sheets_found (sheets_of b)))
+      (λ g f. let same = sym e ∙ f in (g, cc))
+      (λ g f. let same = sym e ∙ f in let z : ◌≡◌ {A = ℕ} 0 1 = cc in absurd (omega arith))
 
-  pub told_sheets : (k : ℕ) (n : Numbers) → x ≡ examined.Sheets k n → (good_book b ≡ true) × (examined.Sheets k n ≡ sheets_found (sheets_of b))
-  told_sheets k n e =
-      by_good ((good_book b ≡ true) × (examined.Sheets k n ≡ sheets_found (sheets_of b))) (λ g f. (g, sym e ∙ f)) (λ g f. let same = sym e ∙ f in let z : ◌≡◌ {A = ℕ} 0 1 = cc in absurd (omega arith))
+counted : (ss : List (List ℕ)) (o : Option Seen) → o ≡ sheets_found ss → (n : ℕ) → MatchOption o (n ≡ 0) (λ s. n ≡ s.sheets) → n ≡ length ss
+counted [] o is n h = rw is at h
+counted (s ∷ ss) o is n h = rw is at h
 
-so_many : (k : ℕ) (n : Numbers) (ss : List (List ℕ)) → examined.Sheets k n ≡ sheets_found ss → k ≡ length ss
-so_many k n [] f = let z : ◌≡◌ {A = ℕ} 0 1 = cc in absurd (omega arith)
-so_many k n (s ∷ ss) f = cc
+its_cells : (ss : List (List ℕ)) (o : Option Seen) → o ≡ sheets_found ss → (m : ℕ) → MatchOption o (m ≡ 64) (λ s. m ≡ s.newest.cells) → m ≡ cells_of ss
+its_cells [] o is m h = rw is at h
+its_cells (s ∷ ss) o is m h = rw is at h
 
-its_cells : (k : ℕ) (n : Numbers) (ss : List (List ℕ)) → examined.Sheets k n ≡ sheets_found ss → n.cells ≡ cells_of ss
-its_cells k n [] f = let z : ◌≡◌ {A = ℕ} 0 1 = cc in absurd (omega arith)
-its_cells k n (s ∷ ss) f = let same : n ≡ numbers_in s = cc in ap (λ (x : Numbers). x.cells) same
+-- ---- count, lookup
 
--- ---- good, count
-
-module _ (b : List ℕ) (x : Examined) (is : x ≡ examined_of b) where
-  pub good_bad : x ≡ examined.NotGood → false ≡ good_book b
-  good_bad e = sym (told_bad b x is e)
-
-  pub good_empty : x ≡ examined.Empty → true ≡ good_book b
-  good_empty e = sym (told_empty b x is e).0
-
-  pub good_sheets_lem : (k : ℕ) (n : Numbers) → x ≡ examined.Sheets k n → true ≡ good_book b
-  good_sheets_lem k n e = sym (told_sheets b x is k n e).0
-
-  pub count_bad : x ≡ examined.NotGood → refused 23 ≡ count_of b
+module _ (b : List ℕ) (x : Result (Option Seen) Refusal) (is : x ≡ examined_of b) where
+  pub count_bad : (r : Refusal) → x ≡ Err r → (q : Result ℕ Refusal) → IsErrAnd q (λ e. e ≡ r) → said_count q ≡ count_of b
   unfolding count_of
-  count_bad e = rw (told_bad b x is e)
+  count_bad r e q h = let told = told_bad b x is r e in rw (passed_on q r h, told.1, told.0)
 
-  pub count_empty : x ≡ examined.Empty → answered 0 ≡ count_of b
+  pub count_good : (o : Option Seen) → x ≡ Ok o → (n : ℕ) → MatchOption o (n ≡ 0) (λ s. n ≡ s.sheets) → answered n ≡ count_of b
   unfolding count_of
-  count_empty e = let told = told_empty b x is e in rw (told.0, told.1)
+  count_good o e n h = let told = told_good b x is o e in rw (told.0, counted (sheets_of b) o told.1 n h)
 
-  pub count_sheets : (k : ℕ) (n : Numbers) → x ≡ examined.Sheets k n → answered k ≡ count_of b
-  unfolding count_of
-  count_sheets k n e = let told = told_sheets b x is k n e in rw (told.0, ← (so_many k n (sheets_of b) told.1))
+last_set_again : (l : LastSet) → last_set (found_of l) ≡ l
+last_set_again blank = refl
+last_set_again (entry c turn) = refl
 
-pub ruleset goods = (good_bad, good_empty, good_sheets_lem)
-
-pub ruleset counts = (count_bad, count_empty, count_sheets)
-
--- ---- lookup
-
-said_again : (l : LastSet) → said_found (found_of l) ≡ answered l
-said_again blank = refl
-said_again (entry c turn) = refl
-
-module _ (b : List ℕ) (cell cells : ℕ) where
-  pub find_no_cell : cells ≤ cell → refused 6 ≡ find_of b cell cells
-  unfolding find_of
-  find_no_cell h = rw (le-ltb cell cells h)
-
-  pub find_newest : cell < cells → (r : Found) → r ≡ found_of (newest cell (sheets_of b)) → said_found r ≡ find_of b cell cells
-  unfolding find_of
-  find_newest h r is = ap said_found is ∙ said_again (newest cell (sheets_of b)) ∙ sym (rw (lt-ltb cell cells h))
-
-pub ruleset finds = (find_no_cell, find_newest)
-
-module _ (b : List ℕ) (cell : ℕ) (x : Examined) (is : x ≡ examined_of b) where
-  pub lookup_bad : x ≡ examined.NotGood → refused 23 ≡ lookup_of b cell
+module _ (b : List ℕ) (cell : ℕ) (x : Result (Option Seen) Refusal) (is : x ≡ examined_of b) where
+  pub lookup_bad : (r : Refusal) → x ≡ Err r → (q : Result (Option Found) Refusal) → IsErrAnd q (λ e. e ≡ r) → said_found q ≡ lookup_of b cell
   unfolding lookup_of
-  lookup_bad e = rw (told_bad b x is e)
+  lookup_bad r e q h = let told = told_bad b x is r e in rw (passed_on q r h, told.1, told.0)
 
-  found_is : good_book b ≡ true → (cells : ℕ) → cells ≡ cells_of (sheets_of b) → (r : Found) → said_found r ≡ find_of b cell cells → said_found r ≡ lookup_of b cell
-  unfolding lookup_of find_of
-  found_is g cells are r found = found ∙ rw (are, g)
+  module _ (o : Option Seen) (e : x ≡ Ok o) where
+    pub lookup_good : every_sheet good (sheets_of b) ≡ true
+    unfolding good_sheets
+    lookup_good = and_left _ _ (and_left _ _ (told_good b x is o e).0)
 
-  each_good : good_book b ≡ true → every_sheet good (sheets_of b) ≡ true
-  unfolding good_sheets
-  each_good g = and_left _ _ (and_left _ _ g)
+    module _ (m : ℕ) (cells : MatchOption o (m ≡ 64) (λ s. m ≡ s.newest.cells)) where
+      are : m ≡ cells_of (sheets_of b)
+      are = its_cells (sheets_of b) o (told_good b x is o e).1 m cells
 
-  pub lookup_empty_good : x ≡ examined.Empty → every_sheet good (sheets_of b) ≡ true
-  lookup_empty_good e = each_good (told_empty b x is e).0
+      pub lookup_no_cell : (r : Refusal) → Err r ≡ refused_when refusal.CellNotBelow (leb m cell)
+          → (q : Result (Option Found) Refusal) → IsErrAnd q (λ e. e ≡ r) → said_found q ≡ lookup_of b cell
+      unfolding lookup_of
+      lookup_no_cell r outside q h =
+          let told = when_refused refusal.CellNotBelow (leb m cell) r outside in
+          let past : ltb cell (cells_of (sheets_of b)) ≡ false = ap (ltb cell) (sym are) ∙ le-ltb cell m (leb-true m cell told.0) in
+          rw (passed_on q r h, told.1, (told_good b x is o e).0, past)
 
-  pub lookup_sheets_good : (k : ℕ) (n : Numbers) → x ≡ examined.Sheets k n → every_sheet good (sheets_of b) ≡ true
-  lookup_sheets_good k n e = each_good (told_sheets b x is k n e).0
-
-  pub lookup_empty : x ≡ examined.Empty → (r : Found) → said_found r ≡ find_of b cell 64 → said_found r ≡ lookup_of b cell
-  lookup_empty e r found =
-      let told = told_empty b x is e in
-      found_is told.0 64 (sym (ap cells_of told.1)) r found
-
-  pub lookup_sheets : (k : ℕ) (n : Numbers) → x ≡ examined.Sheets k n → (r : Found) → said_found r ≡ find_of b cell n.cells → said_found r ≡ lookup_of b cell
-  lookup_sheets k n e r found =
-      let told = told_sheets b x is k n e in
-      found_is told.0 n.cells (its_cells k n (sheets_of b) told.1) r found
-
-pub ruleset lookups = (lookup_bad, lookup_empty_good, lookup_sheets_good, lookup_empty, lookup_sheets)
+      pub lookup_newest : Ok (tt {0}) ≡ refused_when refusal.CellNotBelow (leb m cell)
+          → (f : Option Found) → f ≡ found_of (newest cell (sheets_of b)) → answered (last_set f) ≡ lookup_of b cell
+      unfolding lookup_of
+      lookup_newest within f found =
+          let below = leb-false m cell (when_went_on refusal.CellNotBelow (leb m cell) within) in
+          let there : ltb cell (cells_of (sheets_of b)) ≡ true = ap (ltb cell) (sym are) ∙ lt-ltb cell m below in
+          rw ((told_good b x is o e).0, there)
+          (ap answered (ap last_set found ∙ last_set_again (newest cell (sheets_of b))))
 
 -- ---- add
 
@@ -157,78 +129,102 @@ same_shelf n o desks cells turn (s ∷ ss) =
     ∙ ap (λ (m : ℕ). good s && (eqb x.desks o.desks && eqb x.cells m && eqb (x.turn + 1) turn) && good_before n x.turn ss) cells
     ∙ ap (λ (u : Bool). good s && fits_before x o turn && u) (same_shelf n o desks cells x.turn ss)
 
-takes_if : (g : Bool) (k : ℕ) (newest n : Numbers) → takes_next (cond g (examined.Sheets k newest) examined.NotGood) n ≡ g && fits_before newest n n.turn
-takes_if true k newest n = refl
-takes_if false k newest n = refl
-
 -- tests in another order, the last one the same where the third holds
 in_order : (a b c t : Bool) → (t ≡ true → b ≡ c) → a && b && t ≡ a && t && c
 in_order a b c true same = rw (same refl, and-true, and-true)
 in_order a b c false same = rw (and-false, and-false)
 
 -- a sheet with these numbers can be added exactly if all before it are good and fit it
-takes_is : (n : Numbers) (ss : List (List ℕ)) → takes_next (cond (good_sheets ss) (sheets_found ss) examined.NotGood) n ≡ good_before n n.turn ss
+takes_is : (n : Numbers) (ss : List (List ℕ)) → good_sheets ss && takes_next (sheets_found ss) n ≡ good_before n n.turn ss
 unfolding good_sheets good_before
 takes_is n [] = refl
 takes_is n (o ∷ os) =
     let x = numbers_in o in
-    takes_if (good_sheets (o ∷ os)) (length (o ∷ os)) x n
-    ∙ ap (λ (g : Bool). g && fits_before x n n.turn) (good_is_before o os)
+    ap (λ (g : Bool). g && fits_before x n n.turn) (good_is_before o os)
     ∙ in_order (good o) (good_before x x.turn os) (good_before n x.turn os) (fits_before x n n.turn)
     (λ t. same_shelf x n (search tested) (search tested) x.turn os)
 
 module _ (room : List ℕ) (len : ℕ) (s : List ℕ) where
-  add_refused : (k : ℕ) → added_of room len s ≡ refused k → room_of room len s ≡ room → Adds room len s (added.Refused k) room
-  add_refused k a r = record { answers = sym a; room = sym r }
+  add_refused : (r : Refusal) → added_of room len s ≡ refused (number_of r) → room_of room len s ≡ room → Adds room len s (Err r) room
+  add_refused r a stays = record { answers = sym a; room = sym stays }
 
   module _ (r : Result Numbers Refusal) (reads : said_read s r ≡ reading_of s) where
-    pub add_not_good : (x : Refusal) → r ≡ Err x → Adds room len s (added.Refused 13) room
+    pub add_not_good : (x : Refusal) → r ≡ Err x → Adds room len s (Err x) room
     unfolding added_of room_of
-    add_not_good x e = let g = said_bad s r x e reads in add_refused 13 (rw g) (rw g)
+    add_not_good x e =
+        let g = said_bad s r x e reads in
+        let thirteen : ◌≡◌ {A = Answer Sheet} (refused (number_of x)) (refused 13) = ap (said_read s) (sym e) ∙ reads ∙ bad_read s g in
+        let number : number_of x ≡ 13 = cc in
+        add_refused x (rw (g, number)) (rw g)
 
     module _ (n : Numbers) (e : r ≡ Ok n) where
       is_good : good s ≡ true
       is_good = (said_good s r n e reads).0
 
-      pub add_beyond : length room < len → Adds room len s (added.Refused 23) room
+      pub add_beyond : (q : Refusal) → Err q ≡ refused_when refusal.BookNotGood (ltb (length room) len) → Adds room len s (Err q) room
       unfolding added_of room_of
-      add_beyond h = let beyond = lt-ltb (length room) len h in add_refused 23 (rw (is_good, beyond)) (rw (is_good, beyond))
+      add_beyond q off =
+          let told = when_refused refusal.BookNotGood (ltb (length room) len) q off in
+          rw told.1
+          (add_refused refusal.BookNotGood (rw (is_good, told.0)) (rw (is_good, told.0)))
 
-      module _ (within : len ≤ length room) (x : Examined) (is : x ≡ examined_of (take len room)) (t : Bool) (test : t ≡ takes_next x n) where
+      module _ (on_book : Ok (tt {0}) ≡ refused_when refusal.BookNotGood (ltb (length room) len)) where
         inside : ltb (length room) len ≡ false
-        inside = le-ltb (length room) len within
+        inside = when_went_on refusal.BookNotGood (ltb (length room) len) on_book
 
-        becomes_good : good_book (becomes room len s) ≡ t
+        pub within : len ≤ length room
+        within = ltb-false (length room) len inside
+
+        becomes_good : good_book (becomes room len s) ≡ good_book (take len room) && takes_next (sheets_found (sheets_of (take len room))) n
         becomes_good =
             good_behind (take len room) s is_good
             ∙ ap (λ (m : Numbers). good_before m m.turn (sheets_of (take len room))) (sym (said_good s r n e reads).1)
             ∙ sym (takes_is n (sheets_of (take len room)))
-            ∙ ap (λ (y : Examined). takes_next y n) (sym is)
-            ∙ sym test
 
-        pub add_misfit : not t ≡ true → Adds room len s (added.Refused 23) room
+        -- not good, or not with this sheet
+        add_not_so : good_book (becomes room len s) ≡ false → (q : Refusal) → q ≡ refusal.BookNotGood → Adds room len s (Err q) room
         unfolding added_of room_of
-        add_misfit off =
-            let g = becomes_good ∙ not-true t off in
-            add_refused 23 (rw (is_good, inside, g)) (rw (is_good, inside, g))
+        add_not_so g q is = rw is (add_refused refusal.BookNotGood (rw (is_good, inside, g)) (rw (is_good, inside, g)))
 
-        module _ (on : not t ≡ false) where
-          fits : good_book (becomes room len s) ≡ true
-          fits = becomes_good ∙ not-false t on
+        module _ (x : Result (Option Seen) Refusal) (is : x ≡ examined_of (take len room)) where
+          pub add_bad : (q : Refusal) → x ≡ Err q → Adds room len s (Err q) room
+          add_bad q bad =
+              let told = told_bad (take len room) x is q bad in
+              add_not_so (becomes_good ∙ rw told.0) q told.1
 
-          pub add_no_room : length room - len < length s → Adds room len s (added.Refused 11) room
-          unfolding added_of room_of
-          add_no_room h =
-              let short = lt-ltb (length room - len) (length s) h in
-              add_refused 11 (rw (is_good, inside, fits, short)) (rw (is_good, inside, fits, short))
+          module _ (o : Option Seen) (seen : x ≡ Ok o) (t : Bool) (test : t ≡ takes_next o n) where
+            becomes_so : good_book (becomes room len s) ≡ t
+            becomes_so =
+                let told = told_good (take len room) x is o seen in
+                becomes_good ∙ rw (told.0, ← told.1) (sym test)
 
-          pub add_laid : length s ≤ length room - len → (after : List ℕ) → after ≡ laid_over room len s → Adds room len s (added.Length (len + length s)) after
-          unfolding added_of room_of
-          add_laid h after is_laid =
-              let enough = le-ltb (length room - len) (length s) h in
-              record {
-                answers = rw (is_good, inside, fits, enough);
-                room = is_laid ∙ laid room len s (omega arith) ∙ sym (rw (is_good, inside, fits, enough));
-              }
+            pub add_misfit : (q : Refusal) → Err q ≡ refused_when refusal.BookNotGood (not t) → Adds room len s (Err q) room
+            add_misfit q off =
+                let told = when_refused refusal.BookNotGood (not t) q off in
+                add_not_so (becomes_so ∙ not-true t told.0) q told.1
 
-pub ruleset addings = (add_not_good, add_beyond, add_misfit, add_no_room, add_laid)
+            module _ (on : Ok (tt {0}) ≡ refused_when refusal.BookNotGood (not t)) where
+              fits : good_book (becomes room len s) ≡ true
+              fits = becomes_so ∙ not-false t (when_went_on refusal.BookNotGood (not t) on)
+
+              pub add_no_room : (q : Refusal) → Err q ≡ refused_when refusal.BufferShort (ltb (length room - len) (length s)) → Adds room len s (Err q) room
+              unfolding added_of room_of
+              add_no_room q off =
+                  let told = when_refused refusal.BufferShort (ltb (length room - len) (length s)) q off in
+                  rw told.1
+                  (add_refused refusal.BufferShort (rw (is_good, inside, fits, told.0)) (rw (is_good, inside, fits, told.0)))
+
+              pub add_laid : Ok (tt {0}) ≡ refused_when refusal.BufferShort (ltb (length room - len) (length s))
+                  → (after : List ℕ) → after ≡ laid_over room len s → Adds room len s (Ok (len + length s)) after
+              unfolding added_of room_of
+              add_laid on_room after is_laid =
+                  let short = when_went_on refusal.BufferShort (ltb (length room - len) (length s)) on_room in
+                  let enough = ltb-false (length room - len) (length s) short in
+                  record {
+                    answers = rw (is_good, inside, fits, short);
+                    room = is_laid ∙ laid room len s (omega (arith, within, enough)) ∙ sym (rw (is_good, inside, fits, short));
+                  }
+
+  -- an exit by `?`
+  pub refusing : (q : Result ℕ Refusal) (r : Refusal) → IsErrAnd q (λ e. e ≡ r) → Adds room len s (Err r) room → Adds room len s q room
+  refusing q r h adds = rw (passed_on q r h) adds

@@ -5,7 +5,6 @@
 use mathlib.Core.Path.{◌≡◌, refl, sym, ap, ◌∙◌}
 use mathlib.Core.Bool.{Bool, true, false, false≢true}
 use mathlib.Core.List.{List, [], ◌∷◌}
-use mathlib.Core.Option.{Option, none, some}
 use Prim.Native.Nat.{ℕ, suc, ◌+◌, ◌*◌, ◌<◌, ◌≤◌}
 use native.Mathlib.Omega.{arith}
 use native.Mathlib.Numerals.{add-one}
@@ -13,6 +12,7 @@ use lib.Dec.{eqb}
 use lib.ListN.{length, get_or, take, drop, drop_of_length-le}
 use lib.Seq.{drop-cons, take-length, length-take-le, get_or-drop}
 use borrow.Author.Tests.{eq-eqb, ne_eqb, le-leb, eqb-true, eqb-false}
+use Rattle.std.specs.Prelude.{Option, Some, None}
 use Rattle.content.specs.declared.Content.{Content}
 use Rattle.layout.specs.declared.Entry.{Entry}
 use Rattle.layout.specs.declared.Numbers.{Numbers}
@@ -23,16 +23,12 @@ use Rattle.sheet.specs.Good.{good}
 use Rattle.sheet.specs.Reading.{no_entry, entry_at}
 use Rattle.sheet.proofs.Laws.Good.{good_length}
 use Rattle.book.specs.declared.Back.{Back}
-use Rattle.book.specs.declared.Back.TheVariants as back
 use Rattle.book.specs.declared.Found.{Found}
-use Rattle.book.specs.declared.Found.TheVariants as found
-use Rattle.book.specs.declared.newest.Hit.{Hit}
-use Rattle.book.specs.declared.newest.Hit.TheVariants as hit
 use Rattle.book.specs.Sheets.{last_sheet, before, sheets_of}
 use Rattle.book.specs.Good.{numbers_in, every_sheet}
 use Rattle.book.specs.Stepping.{part_of, step_back}
-use Rattle.book.specs.Lookup.{entries_in, entry_on, or_older, newest}
-use Rattle.book.specs.Parts.{hit_of, found_of}
+use Rattle.book.specs.Lookup.{entry, entries_in, entry_on, or_older, newest}
+use Rattle.book.specs.Parts.{found_of}
 use Rattle.book.proofs.Laws.Sheets.{sheets_none, sheets_cut}
 use Rattle.book.proofs.Laws.Stepping.{Stepped, stepped, stepped_none}
 
@@ -51,7 +47,7 @@ module _ (s : List ℕ) (count cell : ℕ) where
   hit_begun h = record { room = h; within = omega arith; passed = refl }
 
   module _ {k : ℕ} (so : HitSoFar s count cell k) where
-    pub hit_none : count ≤ k → hit.None ≡ hit_of (entry_on cell es)
+    pub hit_none : count ≤ k → None ≡ entry_on cell es
     unfolding entry_on
     hit_none h = rw (so.passed, drop_of_length-le es {i = k} (omega (arith, entries_count count s)))
 
@@ -71,10 +67,10 @@ module _ (s : List ℕ) (count cell : ℕ) where
           let first : 6 * k + 0 ≡ 6 * k = omega arith in
           ap (λ (e : Entry). e.cell) at ∙ get_or-drop (6 * k) s 0 0 ∙ ap (λ (i : ℕ). get_or s i 0) first
 
-      pub hit_found : get_or s (6 * k) 0 ≡ cell → (e : Entry) → e ≡ entry_at s k → hit.Entry e ≡ hit_of (entry_on cell es)
+      pub hit_found : get_or s (6 * k) 0 ≡ cell → (e : Entry) → e ≡ entry_at s k → Some e ≡ entry_on cell es
       unfolding entry_on
       hit_found c e entry_is =
-          ap hit.Entry entry_is ∙ sym (rw (so.passed, stands, eq-eqb (entry_at s k).cell cell (its_cell ∙ c)))
+          ap Some entry_is ∙ sym (rw (so.passed, stands, eq-eqb (entry_at s k).cell cell (its_cell ∙ c)))
 
       pub hit_turned : (get_or s (6 * k) 0 ≡ cell → ⊥) → HitSoFar s count cell (k + 1)
       unfolding entry_on
@@ -95,7 +91,7 @@ pub record NewestSoFar (b : List ℕ) (cell place : ℕ) : Type 0 where
   pub passed : newest cell (sheets_of b) ≡ newest cell (sheets_of (take place b))
 
 module _ (b : List ℕ) (cell : ℕ) where
-  abbrev answer : Found
+  abbrev answer : Option Found
   answer = found_of (newest cell (sheets_of b))
 
   pub newest_begun : every_sheet good (sheets_of b) ≡ true → NewestSoFar b cell (length b)
@@ -114,8 +110,8 @@ module _ (b : List ℕ) (cell : ℕ) where
         let cut = sheets_cut (take place b) (omega (arith, long)) in
         (and_split (good (last_sheet (take place b))) (every_sheet good (sheets_of (before (take place b)))) (sym (ap (every_sheet good) cut) ∙ so.all_good)).0
 
-  module _ {place : ℕ} (so : NewestSoFar b cell place) (r : Back) (is : r ≡ step_back b place) where
-    none_left : r ≡ back.None → sheets_of (take place b) ≡ []
+  module _ {place : ℕ} (so : NewestSoFar b cell place) (r : Option Back) (is : r ≡ step_back b place) where
+    none_left : r ≡ None → sheets_of (take place b) ≡ []
     none_left e = by_test (eqb (length (take place b)) 0) refl
       where
         by_test : (t : Bool) → eqb (length (take place b)) 0 ≡ t → sheets_of (take place b) ≡ []
@@ -125,85 +121,59 @@ module _ (b : List ℕ) (cell : ℕ) where
             let long : length (take place b) ≡ place = length-take-le place b so.within in
             absurd (false≢true (sym (stepped_none b place r is e so.within) ∙ newest_known so (omega (arith, long))))
 
-    pub newest_none : r ≡ back.None → found.Blank ≡ answer
+    pub newest_none : r ≡ None → None ≡ answer
     unfolding newest
     newest_none e = rw (so.passed, none_left e)
 
-    module _ (start end : ℕ) (n : Numbers) (e : r ≡ back.Sheet start end n) where
-      step : Stepped b place start end n
-      step = stepped b place r is start end n e
+    module _ (s : Back) (e : r ≡ Some s) where
+      step : Stepped b place s
+      step = stepped b place r is s e
 
-      pub newest_part_start : start ≤ end
+      pub newest_part_start : s.start ≤ s.end
       newest_part_start = omega (arith, step.starts, step.ends)
 
-      pub newest_part_end : end ≤ length b
+      pub newest_part_end : s.end ≤ length b
       newest_part_end = omega (arith, step.within, step.ends)
 
-      pub newest_less : start < place
+      pub newest_less : s.start < place
       newest_less = omega (arith, step.starts)
 
-      part : part_of b start end ≡ part_of b start place
-      part = ap (part_of b start) step.ends
+      part : part_of b s.start s.end ≡ part_of b s.start place
+      part = ap (part_of b s.start) step.ends
 
-      pub newest_room : 6 * n.entries + 12 ≤ length (part_of b start end)
+      pub newest_room : 6 * s.numbers.entries + 12 ≤ length (part_of b s.start s.end)
       newest_room =
-          let many : n.entries ≡ (numbers_in (part_of b start place)).entries = ap (λ (x : Numbers). x.entries) step.numbers_are in
-          let long : length (part_of b start end) ≡ length (part_of b start place) = ap length part in
-          omega (arith, many, long, good_length (part_of b start place) step.is_good)
+          let many : s.numbers.entries ≡ (numbers_in (part_of b s.start place)).entries = ap (λ (x : Numbers). x.entries) step.numbers_are in
+          let long : length (part_of b s.start s.end) ≡ length (part_of b s.start place) = ap length part in
+          omega (arith, many, long, good_length (part_of b s.start place) step.is_good)
 
-      module _ (h : Hit) (looked : h ≡ hit_of (entry_on cell (entries_of n.entries (part_of b start end)))) where
-        has : Option Entry
-        has = entry_on cell (entries_in (part_of b start place))
-
-        looked_at : h ≡ hit_of has
-        unfolding has
+      module _ (h : Option Entry) (looked : h ≡ entry_on cell (entries_of s.numbers.entries (part_of b s.start s.end))) where
+        looked_at : h ≡ entry_on cell (entries_in (part_of b s.start place))
         looked_at =
             looked
-            ∙ ap (λ (l : List ℕ). hit_of (entry_on cell (entries_of n.entries l))) part
-            ∙ ap (λ (x : Numbers). hit_of (entry_on cell (entries_of x.entries (part_of b start place)))) step.numbers_are
+            ∙ ap (λ (l : List ℕ). entry_on cell (entries_of s.numbers.entries l)) part
+            ∙ ap (λ (x : Numbers). entry_on cell (entries_of x.entries (part_of b s.start place))) step.numbers_are
 
-        goes_on : newest cell (sheets_of b) ≡ or_older has n.turn (newest cell (sheets_of (take start b)))
-        unfolding newest has
+        goes_on : newest cell (sheets_of b) ≡ or_older h s.numbers.turn (newest cell (sheets_of (take s.start b)))
+        unfolding newest
         goes_on =
             so.passed
             ∙ rw step.sheets_are
-            (ap (λ (x : Numbers). or_older (entry_on cell (entries_in (part_of b start place))) x.turn (newest cell (sheets_of (take start b)))) (sym step.numbers_are))
+            (ap (λ (o : Option Entry). or_older o (numbers_in (part_of b s.start place)).turn (newest cell (sheets_of (take s.start b)))) (sym looked_at)
+            ∙ ap (λ (x : Numbers). or_older h x.turn (newest cell (sheets_of (take s.start b)))) (sym step.numbers_are))
 
-        is_none : h ≡ hit.None → has ≡ none
-        is_none e = by_case has refl
-          where
-            by_case : (o : Option Entry) → has ≡ o → has ≡ none
-            by_case none p = p
-            by_case (some x) p =
-                let same : hit.None ≡ hit.Entry x = sym e ∙ looked_at ∙ ap hit_of p in
-                let z : ◌≡◌ {A = ℕ} 0 1 = cc in
-                absurd (omega arith)
-
-        is_some : (x : Entry) → h ≡ hit.Entry x → has ≡ some x
-        is_some x e = by_case has refl
-          where
-            by_case : (o : Option Entry) → has ≡ o → has ≡ some x
-            by_case none p =
-                let same : hit.Entry x ≡ hit.None = sym e ∙ looked_at ∙ ap hit_of p in
-                let z : ◌≡◌ {A = ℕ} 0 1 = cc in
-                absurd (omega arith)
-            by_case (some y) p =
-                let same : hit.Entry x ≡ hit.Entry y = sym e ∙ looked_at ∙ ap hit_of p in
-                let it : y ≡ x = cc in
-                p ∙ ap some it
-
-        pub newest_found : (x : Entry) → h ≡ hit.Entry x → (c : Content) → c ≡ content_in x → found.Entry c n.turn ≡ answer
+        pub newest_found : (x : Entry) → h ≡ Some x → (c : Content) → c ≡ content_in x → Some (record { content = c; turn = s.numbers.turn }) ≡ answer
         newest_found x e c content =
-            let older = newest cell (sheets_of (take start b)) in
-            ap (λ (y : Content). found.Entry y n.turn) content
-            ∙ sym (ap found_of (goes_on ∙ ap (λ (o : Option Entry). or_older o n.turn older) (is_some x e)))
+            let older = newest cell (sheets_of (take s.start b)) in
+            ap (λ (y : Content). found_of (entry y s.numbers.turn)) content
+            ∙ sym (ap found_of (goes_on ∙ ap (λ (o : Option Entry). or_older o s.numbers.turn older) e))
 
-        pub newest_turned : h ≡ hit.None → NewestSoFar b cell start
+        pub newest_turned : h ≡ None → NewestSoFar b cell s.start
         newest_turned e =
             record {
               within = omega (arith, step.starts, step.within);
-              all_good = (and_split (good (part_of b start place)) (every_sheet good (sheets_of (take start b))) (sym (ap (every_sheet good) step.sheets_are) ∙ so.all_good)).1;
-              passed = goes_on ∙ rw (is_none e);
+              all_good = (and_split (good (part_of b s.start place)) (every_sheet good (sheets_of (take s.start b))) (sym (ap (every_sheet good) step.sheets_are) ∙ so.all_good)).1;
+              passed = goes_on ∙ rw e;
             }
 
 pub ruleset newests = (newest_begun, newest_known, newest_none, newest_part_start, newest_part_end, newest_less, newest_room, newest_found, newest_turned)

@@ -1,25 +1,33 @@
--- `add` meets its contract: each return is one of the laws `addings`.
+-- `add` meets its contract: each return is one of the laws of
+-- crates/book/proofs/Laws/Calls.antt.
 -- Assumes nothing.
-use borrow.Author.Rules.{rules}
-use mathlib.Core.Path.{sym}
-use lib.Seq.{length-take-le}
-use Rattle.book.proofs.Laws.Calls.{addings}
+use Rattle.book.proofs.Laws.Calls.{refusing, add_not_good, add_beyond, add_bad, add_misfit, add_no_room, add_laid}
 use Rattle.book.proofs.add.Goals as goal
 
-pub returns-in_default : goal.returns-in_default
-returns-in_default c = search (addings, rules)
+pub returns-in_err-numbers : goal.returns-in_err-numbers
+returns-in_err-numbers c = refusing _ _ _ _ _ c.from_residual.ensures.1 (add_not_good _ _ _ _ c.read.ensures _ c.in_err-numbers.was)
 
-pub returns-then-room-len : goal.returns-then-room-len
-returns-then-room-len c = search (addings, rules)
+pub returns-in_err-when : goal.returns-in_err-when
+returns-in_err-when c =
+    refusing _ _ _ _ _ c.from_residual-in_err-when.ensures.1
+    (add_beyond _ _ _ _ c.read.ensures _ c.in_ok-numbers.was _ c.in_err-when.ensures)
 
-pub slice_bounds-examine-end-2 : goal.slice_bounds-examine-end-2
-slice_bounds-examine-end-2 c = sym (length-take-le _ _ (search rules))
+pub returns-in_err-seen : goal.returns-in_err-seen
+returns-in_err-seen c =
+    refusing _ _ _ _ _ c.from_residual-in_err-seen.ensures.1
+    (add_bad _ _ _ _ c.read.ensures _ c.in_ok-numbers.was c.in_ok-when.ensures _ c.examine.ensures _ c.in_err-seen.was)
 
-pub returns-then-not-takes : goal.returns-then-not-takes
-returns-then-not-takes c = search (addings, rules)
+pub returns-in_err-when-2 : goal.returns-in_err-when-2
+returns-in_err-when-2 c =
+    refusing _ _ _ _ _ c.from_residual-in_err-when-2.ensures.1
+    (add_misfit _ _ _ _ c.read.ensures _ c.in_ok-numbers.was c.in_ok-when.ensures _ c.examine.ensures _ c.in_ok-seen.was _ c.takes.ensures _ c.in_err-when-2.ensures)
 
-pub returns-then-room-len-2 : goal.returns-then-room-len-2
-returns-then-room-len-2 c = search (addings, rules)
+pub returns-in_err-when-3 : goal.returns-in_err-when-3
+returns-in_err-when-3 c =
+    refusing _ _ _ _ _ c.from_residual-in_err-when-3.ensures.1
+    (add_no_room _ _ _ _ c.read.ensures _ c.in_ok-numbers.was c.in_ok-when.ensures _ c.examine.ensures _ c.in_ok-seen.was _ c.takes.ensures c.in_ok-when-2.ensures _ c.in_err-when-3.ensures)
 
 pub returns : goal.returns
-returns c = search (addings, rules)
+returns c =
+    add_laid _ _ _ _ c.read.ensures _ c.in_ok-numbers.was c.in_ok-when.ensures _ c.examine.ensures _ c.in_ok-seen.was _ c.takes.ensures c.in_ok-when-2.ensures c.in_ok-when-3.ensures
+    _ c.put.ensures

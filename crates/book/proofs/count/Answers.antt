@@ -1,14 +1,12 @@
 -- `count` meets its contract, by what one pass finds.
 -- Assumes nothing.
-use borrow.Author.Rules.{rules}
-use Rattle.book.proofs.Laws.Calls.{counts}
+use Rattle.std.proofs.Common.{rules, of_calls}
+use Rattle.book.proofs.Laws.Calls.{count_bad, count_good}
 use Rattle.book.proofs.count.Goals as goal
 
-pub returns-in-NotGood : goal.returns-in-NotGood
-returns-in-NotGood c = search (counts, rules)
+pub returns-in_err-examine : goal.returns-in_err-examine
+returns-in_err-examine c =
+    count_bad _ _ c.examine.ensures _ c.in_err-examine.was _ c.from_residual.ensures.1
 
-pub returns-in-Empty : goal.returns-in-Empty
-returns-in-Empty c = search (counts, rules)
-
-pub returns-in-Sheets : goal.returns-in-Sheets
-returns-in-Sheets c = search (counts, rules)
+pub returns : goal.returns
+returns c = count_good _ _ c.examine.ensures _ c.in_ok-examine.was _ (search (rules, of_calls, c.map_or.ensures))

@@ -1,20 +1,21 @@
 -- `lookup` meets its contract, by what one pass finds, and then by the newest entry.
 -- Assumes nothing.
-use borrow.Author.Rules.{rules}
-use Rattle.book.proofs.Laws.Calls.{lookups}
+use Rattle.std.proofs.Common.{rules, of_calls}
+use Rattle.book.proofs.Laws.Calls.{lookup_bad, lookup_good, lookup_no_cell, lookup_newest}
 use Rattle.book.proofs.lookup.Goals as goal
 
-pub find-requires : goal.find-requires
-find-requires c = search (lookups, rules)
+pub returns-in_err-examine : goal.returns-in_err-examine
+returns-in_err-examine c = lookup_bad _ _ _ c.examine.ensures _ c.in_err-examine.was _ c.from_residual.ensures.1
 
-pub find-requires-in-Sheets : goal.find-requires-in-Sheets
-find-requires-in-Sheets c = search (lookups, rules)
+pub returns-in_err-when : goal.returns-in_err-when
+returns-in_err-when c =
+    lookup_no_cell c.args.book.now c.args.cell _ c.examine.ensures _ c.in_ok-examine.was c.from.result (search (rules, of_calls, c.from.ensures, c.map_or-cells.ensures)) _
+    c.in_err-when.ensures _ c.from_residual-in_err-when.ensures.1
 
-pub returns-in-NotGood : goal.returns-in-NotGood
-returns-in-NotGood c = search (lookups, rules)
+pub entry-requires : goal.entry-requires
+entry-requires c = lookup_good c.args.book.now c.args.cell _ c.examine.ensures _ c.in_ok-examine.was
 
-pub returns-in-Empty : goal.returns-in-Empty
-returns-in-Empty c = search (lookups, rules)
-
-pub returns-in-Sheets : goal.returns-in-Sheets
-returns-in-Sheets c = search (lookups, rules)
+pub returns : goal.returns
+returns c =
+    lookup_newest c.args.book.now c.args.cell _ c.examine.ensures _ c.in_ok-examine.was c.from.result (search (rules, of_calls, c.from.ensures, c.map_or-cells.ensures))
+    c.in_ok-when.ensures _ c.entry.ensures

@@ -1,23 +1,35 @@
 -- `step_back` meets its contract: each return is one of the laws of
 -- crates/book/proofs/Laws/Stepping.antt.
 -- Assumes nothing.
-use borrow.Author.Rules.{rules}
-use mathlib.Core.Path.{sym}
-use lib.Seq.{length-take-le}
-use Rattle.book.proofs.Laws.Stepping.{steps, step_good, step_bad}
+use mathlib.Core.Path.{◌∙◌, ap}
+use native.Mathlib.Omega.{arith}
+use Rattle.sheet.specs.Reading.{trailer_at_end}
+use Rattle.book.proofs.Laws.Stepping.{front, step_beyond, step_far, part_read, step_good, step_bad}
 use Rattle.book.proofs.step_back.Goals as goal
 
-pub returns-then-book-place : goal.returns-then-book-place
-returns-then-book-place c = search (steps, rules)
+pub returns-in_err-up_to : goal.returns-in_err-up_to
+returns-in_err-up_to c = c.from_residual.ensures ∙ step_beyond _ _ (omega (arith, c.in_err-up_to.ensures.lookup.0))
 
-pub slice_bounds-trailer_of-end : goal.slice_bounds-trailer_of-end
-slice_bounds-trailer_of-end c = sym (length-take-le _ _ (search rules))
+pub returns-in_err-start : goal.returns-in_err-start
+returns-in_err-start c =
+    let up_to = c.in_ok-up_to.ensures.lookup.0 in
+    c.from_residual-in_err-start.ensures
+    ∙ step_far _ _ up_to.1 _ (c.trailer_of.ensures ∙ ap trailer_at_end (front _ _ _ up_to.2)) c.in_err-start.ensures
 
-pub returns-then-place-size : goal.returns-then-place-size
-returns-then-place-size c = search (steps, rules)
+pub returns-in_err-numbers : goal.returns-in_err-numbers
+returns-in_err-numbers c =
+    let up_to = c.in_ok-up_to.ensures.lookup.0 in
+    let whole = front _ _ _ up_to.2 in
+    let start = c.in_ok-start.ensures in
+    let trailer = c.trailer_of.ensures ∙ ap trailer_at_end whole in
+    let part = part_read _ _ up_to.1 _ trailer start.0 _ whole _ start.1 in
+    c.from_residual-in_err-numbers.ensures ∙ step_bad _ _ up_to.1 _ trailer start.0 _ part _ c.read.ensures c.in_err-numbers.ensures.value
 
-pub returns-in-Ok : goal.returns-in-Ok
-returns-in-Ok c = step_good _ _ (search rules) _ c.trailer_of-t.ensures (search rules) _ c.read.ensures _ c.in-Ok.is
-
-pub returns-in-Err : goal.returns-in-Err
-returns-in-Err c = step_bad _ _ (search rules) _ c.trailer_of-t.ensures (search rules) _ c.read.ensures _ c.in-Err.is
+pub returns : goal.returns
+returns c =
+    let up_to = c.in_ok-up_to.ensures.lookup.0 in
+    let whole = front _ _ _ up_to.2 in
+    let start = c.in_ok-start.ensures in
+    let trailer = c.trailer_of.ensures ∙ ap trailer_at_end whole in
+    let part = part_read _ _ up_to.1 _ trailer start.0 _ whole _ start.1 in
+    rw start.1 (step_good _ _ up_to.1 _ trailer start.0 _ part _ c.read.ensures _ c.in_ok-numbers.ensures.value)

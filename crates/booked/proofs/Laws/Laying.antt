@@ -5,7 +5,7 @@
 use mathlib.Core.Path.{◌≡◌, refl, sym, ap, ◌∙◌}
 use mathlib.Core.Bool.{Bool, true, false}
 use mathlib.Core.List.{List, [], ◌∷◌}
-use mathlib.Core.Option.{Option, none, some}
+use Rattle.std.specs.Prelude.{Option, Some, None}
 use Prim.Native.Nat.{ℕ, ◌<◌}
 use native.Mathlib.Omega.{arith}
 use lib.Dec.{eqb}
@@ -28,8 +28,8 @@ use Rattle.booked.proofs.Laws.Newest.{newest_here, newest_older}
 
 -- an entry's value, or what was there
 abbrev or_kept : {A : Type 0} → (Entry → A) → Option Entry → A → A
-or_kept value none a = a
-or_kept value (some e) a = value e
+or_kept value None a = a
+or_kept value (Some e) a = value e
 
 module _ {A : Type 0} (pkind : List ℕ) (value : Entry → A) (blank_one : A) where
   abbrev lay : List A → List Entry → List A
@@ -97,5 +97,5 @@ module _ (pkind : List ℕ) (cell : ℕ) (h : cell < 64) where
 
       by_case : content_found (newest cell older) ≡ content_laid pkind older cell
           → (o : Option Entry) → entry_on cell (entries_in s) ≡ o → content_found (newest cell (s ∷ older)) ≡ content_laid pkind (s ∷ older) cell
-      by_case rest none q = ap content_found (newest_older cell s older q) ∙ rest ∙ sym (rw (kinds, days, q))
-      by_case rest (some e) q = ap content_found (newest_here cell s older e q) ∙ sym (rw (kinds, days, q))
+      by_case rest None q = ap content_found (newest_older cell s older q) ∙ rest ∙ sym (rw (kinds, days, q))
+      by_case rest (Some e) q = ap content_found (newest_here cell s older e q) ∙ sym (rw (kinds, days, q))

@@ -8,7 +8,7 @@
 use mathlib.Core.Path.{◌≡◌, refl, sym, ap, ◌∙◌, subst}
 use mathlib.Core.Bool.{Bool, true, false}
 use mathlib.Core.List.{List, [], ◌∷◌, ◌++◌, append_assoc, append-nil}
-use mathlib.Core.Option.{Option, none, some}
+use Rattle.std.specs.Prelude.{Option, Some, None}
 use Prim.Native.Nat.{ℕ, zero, suc, ◌<◌, ◌≤◌}
 use native.Mathlib.Omega.{arith}
 use lib.Dec.{eqb}
@@ -125,7 +125,7 @@ module _ (line : List SentSheet) where
           is = ap (newest cell) (sym (firsts_suc k h)) ∙ p
 
           by_case : (newest cell (firsts k) ≡ entry c turn → SetBy k c turn) → (o : Option Entry) → entry_on cell (entries_in (sheet k)) ≡ o → SetBy (suc k) c turn
-          by_case rest none q =
+          by_case rest None q =
               let s = rest (sym (newest_older cell (sheet k) (firsts k) q) ∙ is) in
               record {
                 below = omega (arith, s.below);
@@ -134,7 +134,7 @@ module _ (line : List SentSheet) where
                 content_is = s.content_is;
                 none_later = λ j later. up_to k (λ i. HasNone cell (sheet i)) (has_none cell (sheet k) q) j (s.none_later j later);
               }
-          by_case rest (some x) q =
+          by_case rest (Some x) q =
               let same : entry (content_in x) (numbers_in (sheet k)).turn ≡ entry c turn = sym (newest_here cell (sheet k) (firsts k) x q) ∙ is in
               let number : (numbers_in (sheet k)).turn ≡ turn = cc in
               let this_one : k ≡ turn = sym (turns k h) ∙ number in

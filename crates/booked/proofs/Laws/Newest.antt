@@ -9,7 +9,7 @@
 use mathlib.Core.Path.{◌≡◌, refl, sym, ap, ◌∙◌, subst}
 use mathlib.Core.Bool.{true}
 use mathlib.Core.List.{List, [], ◌∷◌, ◌++◌}
-use mathlib.Core.Option.{Option, none, some}
+use Rattle.std.specs.Prelude.{Option, Some, None}
 use Prim.Native.Nat.{ℕ, ◌<◌, ◌≤◌}
 use native.Mathlib.Omega.{arith}
 use lib.ListN.{length}
@@ -42,12 +42,12 @@ in_middle (x ∷ newer) s older = further (in_middle newer s older)
 module _ (cell : ℕ) where
   -- ---- by the newest sheet
 
-  pub newest_here : (s : List ℕ) (older : List (List ℕ)) (e : Entry) → entry_on cell (entries_in s) ≡ some e
+  pub newest_here : (s : List ℕ) (older : List (List ℕ)) (e : Entry) → entry_on cell (entries_in s) ≡ Some e
       → newest cell (s ∷ older) ≡ entry (content_in e) (numbers_in s).turn
   unfolding newest
   newest_here s older e p = ap (λ (o : Option Entry). or_older o (numbers_in s).turn (newest cell older)) p
 
-  pub newest_older : (s : List ℕ) (older : List (List ℕ)) → entry_on cell (entries_in s) ≡ none → newest cell (s ∷ older) ≡ newest cell older
+  pub newest_older : (s : List ℕ) (older : List (List ℕ)) → entry_on cell (entries_in s) ≡ None → newest cell (s ∷ older) ≡ newest cell older
   unfolding newest
   newest_older s older p = ap (λ (o : Option Entry). or_older o (numbers_in s).turn (newest cell older)) p
 
@@ -77,8 +77,8 @@ module _ (cell : ℕ) where
   newest_entry (s ∷ older) c turn p = by_case (newest_entry older c turn) (entry_on cell (entries_in s)) refl
     where
       by_case : (newest cell older ≡ entry c turn → NewestEntry cell older c turn) → (o : Option Entry) → entry_on cell (entries_in s) ≡ o → NewestEntry cell (s ∷ older) c turn
-      by_case rest none q = behind (has_none cell s q) (rest (sym (newest_older s older q) ∙ p))
-      by_case rest (some e) q =
+      by_case rest None q = behind (has_none cell s q) (rest (sym (newest_older s older q) ∙ p))
+      by_case rest (Some e) q =
           let same : entry (content_in e) (numbers_in s).turn ≡ entry c turn = sym (newest_here s older e q) ∙ p in
           record {
             newer = [];
@@ -116,8 +116,8 @@ module _ (cell : ℕ) where
   newest_blank (s ∷ older) p = by_case (newest_blank older) (entry_on cell (entries_in s)) refl
     where
       by_case : (newest cell older ≡ blank → NoneHas cell older) → (o : Option Entry) → entry_on cell (entries_in s) ≡ o → NoneHas cell (s ∷ older)
-      by_case rest none q = one_more (has_none cell s q) (rest (sym (newest_older s older q) ∙ p))
-      by_case rest (some e) q = absurd (entry_is_not_blank (content_in e) (numbers_in s).turn (sym (newest_here s older e q) ∙ p))
+      by_case rest None q = one_more (has_none cell s q) (rest (sym (newest_older s older q) ∙ p))
+      by_case rest (Some e) q = absurd (entry_is_not_blank (content_in e) (numbers_in s).turn (sym (newest_here s older e q) ∙ p))
 
   pub blank_newest : (ss : List (List ℕ)) → NoneHas cell ss → newest cell ss ≡ blank
   unfolding newest

@@ -4,20 +4,20 @@ use borrow.Author.Rules.{rules}
 use Rattle.book.proofs.Laws.Examining.{examines}
 use Rattle.book.proofs.examined.examine.Goals as goal
 
-pub returns-then-book-eq0 : goal.returns-then-book-eq0
-returns-then-book-eq0 c = search (examines, rules)
+pub returns-then-is_empty : goal.returns-then-is_empty
+returns-then-is_empty c = search (examines, rules)
 
-pub returns-in_default : goal.returns-in_default
-returns-in_default c = search (examines, rules)
+pub returns-in_err-last : goal.returns-in_err-last
+returns-in_err-last c = search (examines, rules)
+
+pub returns-in_err-older : goal.returns-in_err-older
+returns-in_err-older c = search (examines, rules)
 
 pub sheets_before-requires : goal.sheets_before-requires
 sheets_before-requires c = search (examines, rules)
 
-pub returns-in_default-sheets_before : goal.returns-in_default-sheets_before
-returns-in_default-sheets_before c = search (examines, rules)
-
 pub overflow_add-result : goal.overflow_add-result
-overflow_add-result c = search (examines, rules)
+overflow_add-result c = search (examines, c.in_ok-last.was, c.in_ok-older.was, rules)
 
 pub returns : goal.returns
 returns c = search (examines, rules)

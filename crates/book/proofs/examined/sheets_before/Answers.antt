@@ -11,29 +11,20 @@ loop-at-init c = search (olders, rules)
 pub tested_back-requires : goal.tested_back-requires
 tested_back-requires c = search (olders, rules)
 
-pub enum_known-start : goal.enum_known-start
-enum_known-start c = search (olders, rules)
-
-pub enum_told-1 : goal.enum_told-1
-enum_told-1 c = search (olders, rules)
-
-pub returns-in_default : goal.returns-in_default
-returns-in_default c = search (olders, rules)
-
-pub fits_before-requires : goal.fits_before-requires
-fits_before-requires c = search (olders, rules)
+pub returns-in_err-start : goal.returns-in_err-start
+returns-in_err-start c = search (olders, c.in_err-start.was, c.from_residual.ensures, rules)
 
 pub returns-then-not-fits_before : goal.returns-then-not-fits_before
-returns-then-not-fits_before c = search (olders, rules)
+returns-then-not-fits_before c = search (olders, c.in_ok-start.was, rules)
 
 pub overflow_add-sheets : goal.overflow_add-sheets
-overflow_add-sheets c = search (olders, rules)
+overflow_add-sheets c = search (olders, c.in_ok-start.was, rules)
 
 pub loop-at-smaller : goal.loop-at-smaller
-loop-at-smaller c = search (olders, rules)
+loop-at-smaller c = search (olders, c.in_ok-start.was, rules)
 
 pub loop-at-preserved : goal.loop-at-preserved
-loop-at-preserved c = search (olders, rules)
+loop-at-preserved c = search (olders, c.in_ok-start.was, rules)
 
 pub returns : goal.returns
 returns c = search (olders, rules)
