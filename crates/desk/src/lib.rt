@@ -20,6 +20,7 @@ use sound::Head;
 // "A record holds n, m, the desk's own number, mode .., turn number, shelf, pending entries, and the
 // waiting read if any." The head has the numbers; the shelf and the pending entries are an array of
 // kinds and one of days each, with 64 places. A pending place that is not blank is a pending entry.
+// Stays: arrays of kinds and days, and numbers in the head; 01 has them so, and any are given (`sound`).
 #[derive(Clone, Copy)]
 pub struct Desk {
     pub head: Head,
@@ -68,6 +69,7 @@ impl Desk {
 
     // "All cells blank, nothing pending, turn number 0. Mode 0 means the default: causal. A refused
     // open gives a record of zeros." Refusals 1, 2, 3, 4.
+    // Stays: four numbers, as 01 gives them to the call, whose signature this is.
     pub fn open(n: u32, m: u32, own: u32, mode: u32) -> Outcome
         ensures { outcome result [] ≡ open_of n m own mode }
     {

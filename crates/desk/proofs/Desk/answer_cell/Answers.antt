@@ -1,3 +1,5 @@
+-- `answer_cell` meets its contract: each return is a law of Laws/Writes.antt.
+-- Assumes nothing.
 use borrow.Author.Rules.{rules}
 use native.Mathlib.Omega.{arith}
 use Rattle.desk.proofs.Laws.Writes.{read_refused, cell_below, waits_so, holds_so}

@@ -1,3 +1,5 @@
+-- `must_wait` meets its contract: its tests, the pending places last.
+-- Assumes nothing.
 use native.Mathlib.Omega.{arith}
 use Rattle.std.proofs.lemmas.Bool.Decides.{nat_tests}
 use Rattle.desk.proofs.Desk.must_wait.Goals as goal

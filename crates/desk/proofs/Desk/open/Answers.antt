@@ -1,3 +1,5 @@
+-- `open` meets its contract: by the head that is opened, or the refusal.
+-- Assumes nothing.
 use Rattle.desk.proofs.Laws.Writes.{opened_so, open_refused}
 use Rattle.desk.proofs.Desk.open.Goals as goal
 

@@ -1,3 +1,5 @@
+-- `put_sheet` meets its contract: each return is a law of Laws/Sends.antt.
+-- Assumes nothing.
 use borrow.Author.Rules.{rules}
 use Rattle.desk.proofs.Laws.Sends.{deliver_refused, deliver_bad, deliver_misfit, deliver_so}
 use Rattle.desk.proofs.Desk.put_sheet.Goals as goal

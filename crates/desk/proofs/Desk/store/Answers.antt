@@ -1,3 +1,5 @@
+-- `store` meets its contract: each return is a law of Laws/Writes.antt.
+-- Assumes nothing.
 use borrow.Author.Rules.{rules}
 use Rattle.desk.proofs.Laws.Writes.{write_refused, stored_so}
 use Rattle.desk.proofs.Desk.store.Goals as goal

@@ -1,3 +1,5 @@
+-- `take_sheet` meets its contract: each return is a law of Laws/Takes.antt.
+-- Assumes nothing.
 use borrow.Author.Rules.{rules}
 use Rattle.desk.proofs.Laws.Takes.{take_refused, take_turn, take_desk, take_room, take_not_there, took}
 use Rattle.desk.proofs.Desk.take_sheet.Goals as goal

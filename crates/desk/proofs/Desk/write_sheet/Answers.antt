@@ -1,3 +1,5 @@
+-- `write_sheet` meets its contract: each return is a law of Laws/Sends.antt.
+-- Assumes nothing.
 use borrow.Author.Rules.{rules}
 use Rattle.desk.proofs.Laws.Sends.{send_refused, send_turn, send_short, send_whole}
 use Rattle.desk.proofs.Desk.write_sheet.Goals as goal
