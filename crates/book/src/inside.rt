@@ -27,7 +27,7 @@ pub(crate) fn tested_back(book: &[u8], place: usize) -> Option<Back>
     Some(Back {
         start,
         end: place,
-        numbers: t.numbers(),
+        numbers: t.into(),
     })
 }
 
@@ -44,6 +44,6 @@ pub(crate) fn known_back(book: &[u8], place: usize) -> Option<Back>
     Some(Back {
         start,
         end: place,
-        numbers: t.numbers(),
+        numbers: t.into(),
     })
 }

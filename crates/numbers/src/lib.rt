@@ -5,15 +5,6 @@
 #![tactic(auto)]
 
 ghost use Rattle.std.specs.Prelude.{◌≡◌, ◌%◌};
-ghost use Rattle.std.specs.Int.{w32};
-ghost use Rattle.std.proofs.Common.{to_z};
-
-// The signed number of a two's complement pattern.
-pub fn signed(n: u32) -> i32
-    ensures { result ≡ to_z w32 n }
-{
-    n.cast_signed()
-}
 
 // What a number leaves when divided; by 0 it leaves itself.
 pub fn left_by(n: u32, by: u8) -> u32

@@ -23,7 +23,7 @@ use Rattle.std.proofs.lemmas.List.{take_rest}
 use Rattle.layout.specs.declared.Numbers.{Numbers}
 use Rattle.layout.specs.declared.Trailer.{Trailer}
 use Rattle.layout.specs.Layout.{entries_of, trailer_of, trailer_in, numbers_of}
-use Rattle.laying.proofs.Laws.{drop_take}
+use Rattle.std.proofs.lemmas.List.{drop-take}
 use Rattle.numbers.proofs.Tests.{tested}
 use Rattle.answer.specs.declared.Refusal.{Refusal}
 use Rattle.sheet.specs.Good.{good}
@@ -73,7 +73,7 @@ module _ (b : List ℕ) (place : ℕ) where
     pub part_is : last_sheet up_to ≡ part_of b (last_start up_to) place
     part_is =
         let whole : last_start up_to + (place - last_start up_to) ≡ place = omega (arith, start_within up_to, long) in
-        ap (λ (i : ℕ). drop (last_start up_to) (take i b)) (sym whole) ∙ drop_take (last_start up_to) (place - last_start up_to) b
+        ap (λ (i : ℕ). drop (last_start up_to) (take i b)) (sym whole) ∙ drop-take (last_start up_to) (place - last_start up_to) b
 
     pub step_sheet : good (last_sheet up_to) ≡ true → step_back b place ≡ back (last_start up_to) place (numbers_in (last_sheet up_to))
     unfolding step_back
