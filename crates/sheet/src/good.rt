@@ -9,22 +9,15 @@ use layout::{Entry, Trailer};
 pub fn good_trailer(t: Trailer, back: usize) -> bool
     ensures { result ≡ good_trailer t back }
 {
-    if !((t.distance == 6 * (t.entries as u16)) & (t.distance as usize == back)) {
-        return false;
-    }
-    if !((1 <= t.desks) & (t.desks <= 16)) {
-        return false;
-    }
-    if !((1 <= t.cells) & (t.cells <= 64)) {
-        return false;
-    }
-    if !((t.sender < t.desks) & ((t.zero6 == 0) & (t.zero7 == 0))) {
-        return false;
-    }
-    if 4294967294 < t.turn {
-        return false;
-    }
-    numbers::left_by(t.turn, t.desks) == (t.sender as u32)
+    t.distance == 6 * u16::from(t.entries)
+        && usize::from(t.distance) == back
+        && (1..=16).contains(&t.desks)
+        && (1..=64).contains(&t.cells)
+        && t.sender < t.desks
+        && t.zero6 == 0
+        && t.zero7 == 0
+        && t.turn <= 4294967294
+        && t.turn % u32::from(t.desks) == u32::from(t.sender)
 }
 
 // An entry of a sheet with so many cells, whose cell is to be `least` or above: 0 for the first
@@ -32,16 +25,7 @@ pub fn good_trailer(t: Trailer, back: usize) -> bool
 pub fn good_entry(cells: u8, least: u32, e: Entry) -> bool
     ensures { result ≡ good_entry cells least e }
 {
-    if (e.cell as u32) < least {
-        return false;
-    }
-    if cells <= e.cell {
-        return false;
-    }
-    if e.kind == 2 {
-        return true;
-    }
-    (e.kind == 1) & (e.day == 0)
+    least <= u32::from(e.cell) && e.cell < cells && ((e.kind == 1 && e.day == 0) || e.kind == 2)
 }
 
 // The first n entries of bytes, each looked at once, up to the first that is not good; none is
@@ -49,19 +33,17 @@ pub fn good_entry(cells: u8, least: u32, e: Entry) -> bool
 pub fn good_entries(s: &[u8], n: u8, cells: u8) -> bool
     ensures { result ≡ good_entries_in s.now n cells }
 {
-    let count = n as usize;
-    if s.len() < 6 * count {
+    let (sixes, _) = s.as_chunks::<6>();
+    let Some(entries) = sixes.get(..usize::from(n)) else {
         return false;
-    }
-    let mut least: u32 = 0;
-    let mut i: usize = 0;
-    while i < count {
-        let e = bytes::entry_from(s, 6 * i);
+    };
+    let mut least = 0;
+    for six in entries {
+        let e = bytes::entry_of(six);
         if !good_entry(cells, least, e) {
             return false;
         }
-        least = (e.cell as u32) + 1;
-        i += 1;
+        least = u32::from(e.cell) + 1;
     }
     true
 }

@@ -21,9 +21,8 @@ pub fn read(s: &[u8]) -> Result<Numbers, Refusal>
     ensures { said_read s.now result ≡ reading_of s.now }
 {
     Refusal::SheetNotGood.when(s.len() < 12)?;
-    let back = s.len() - 12;
-    let t = bytes::trailer_at(s, back);
-    Refusal::SheetNotGood.when(!good_trailer(t, back))?;
+    let t = trailer_of(s);
+    Refusal::SheetNotGood.when(!good_trailer(t, s.len() - 12))?;
     Refusal::SheetNotGood.when(!good_entries(s, t.entries, t.cells))?;
     Ok(Numbers::from(t))
 }
@@ -33,21 +32,10 @@ pub fn read(s: &[u8]) -> Result<Numbers, Refusal>
 pub fn trailer_of(s: &[u8]) -> Trailer
     ensures { result ≡ trailer_at_end s.now }
 {
-    let len = s.len();
-    if len < 12 {
-        return Trailer {
-            distance: 0,
-            entries: 0,
-            sender: 0,
-            desks: 0,
-            cells: 0,
-            zero6: 0,
-            zero7: 0,
-            turn: 0,
-        };
+    match s.last_chunk() {
+        Some(twelve) => bytes::trailer_of(twelve),
+        None => bytes::trailer_of(&[0; 12]),
     }
-    let at = len - 12;
-    bytes::trailer_at(s, at)
 }
 
 // Entry k of a sheet, counted from 0, where it stands; zeros, which are of no kind, where the sheet
@@ -55,13 +43,9 @@ pub fn trailer_of(s: &[u8]) -> Trailer
 pub fn entry_at(s: &[u8], k: u8) -> Entry
     ensures { result ≡ entry_at s.now k }
 {
-    let at = 6 * (k as usize);
-    if s.len() < at + 18 {
-        return Entry {
-            cell: 0,
-            kind: 0,
-            day: 0,
-        };
+    let at = 6 * usize::from(k);
+    match s.get(at..at + 18).and_then(|room| room.first_chunk()) {
+        Some(six) => bytes::entry_of(six),
+        None => bytes::entry_of(&[0; 6]),
     }
-    bytes::entry_from(s, at)
 }

@@ -1,7 +1,6 @@
 -- Laws of `good` (specs/Good.antt) and of its parts (specs/Parts.antt).
---   SoFar, begun, turned, ended              a loop over entries, wherever they stand; turned_in_bytes, ended_in_bytes
---   goes_on_in_bytes, stops_in_bytes, ends_in_bytes, cut_in_bytes    the same for a loop that stops where something is not good
---   entry_tests, trailer_tests               sets for `search`: one entry, and a trailer, test by test
+--   SoFar, begun, turned, ended              a loop over entries, wherever they stand
+--   AreSixes, are_sixes, goes_on, stops, ends       the same over the first entries of bytes, as the code cuts them, up to one that is not good
 --   good_is, too_short_is_bad                good is its two parts; fewer than 12 bytes are no sheet
 --   fair_trailer                             a good trailer's clauses as facts
 --   good_is_long, good_trailer_is_fair, good_entries_are, good_length, good_within    what a good sheet is known to be
@@ -11,16 +10,19 @@
 -- Assumes nothing.
 use mathlib.Core.Path.{◌≡◌, refl, sym, ap, ◌∙◌, subst}
 use mathlib.Core.List.{List, [], ◌∷◌}
-use mathlib.Core.Bool.{Bool, true, false, not, ◌&&◌, and-true, and_assoc, and-false, or-true, or-false, false≢true}
-use Prim.Native.Nat.{ℕ, suc, ◌+◌, ◌*◌, ◌-◌, ◌%◌, ◌<◌, ◌≤◌}
+use mathlib.Core.Bool.{Bool, true, false, ◌&&◌, and-true, and_assoc, and-false, or-false, false≢true}
+use Prim.Native.Nat.{ℕ, zero, suc, ◌+◌, ◌*◌, ◌/◌, ◌-◌, ◌%◌, ◌<◌, ◌≤◌}
 use native.Mathlib.Omega.{arith}
 use native.Mathlib.Numerals.{add-one}
-use lib.ListN.{length, get_or, drop, drop_of_length-le}
+use lib.ListN.{length, get_or, take, drop, drop_of_length-le}
 use lib.Seq.{drop-cons}
 use lib.Dec.{eqb, leb, ltb}
-use borrow.Author.Tests.{le-leb, lt-leb, le-ltb, lt-ltb, eq-eqb, ne_eqb, eqb-true, leb-true, leb-false, not-true, not-false}
+use borrow.Author.Tests.{le-leb, lt-leb, eqb-true, leb-true, leb-false}
 use mir.Syntax.{w32}
 use mir.Val.{to_z}
+use native.Mathlib.Nat.{not-suc-le-zero, le_of_suc-le-suc}
+use Rattle.std.specs.Simd.{first_chunks}
+use Rattle.std.specs.Prelude.{slice_range}
 use Rattle.content.specs.Content.{content_of}
 use Rattle.layout.specs.declared.Entry.{Entry}
 use Rattle.layout.specs.declared.Trailer.{Trailer}
@@ -34,7 +36,7 @@ use Rattle.sheet.specs.Reading.{no_entry}
 use Rattle.sheet.specs.Promises.{GoodWithin}
 use Rattle.sheet.specs.Clauses.{good_trailer, good_entry, good_entries, good_entries_in}
 use Rattle.sheet.proofs.Laws.Bools.{in_any_order}
-use Rattle.layout.proofs.Laws.{entry_of_entries, entries_count, sheet_length, TrailerFits, entries_back, trailer_back}
+use Rattle.layout.proofs.Laws.{entries_count, sheet_length, TrailerFits, entries_back, trailer_back}
 
 -- ---- the entries, as a loop goes
 
@@ -76,67 +78,70 @@ module _ (es : List Entry) (cells : ℕ) where
   begun = record { within_es = omega arith; whole = sym (from_is cells 0 es ∙ rw (none_below es)) }
 
   module _ (ok : Bool) (least i : ℕ) (so : SoFar es cells ok least i) where
-    pub turned : i < length es → (e : Entry) (g : Bool) → e ≡ get_or es i no_entry → g ≡ good_entry cells least e → SoFar es cells (ok && g) (e.cell + 1) (i + 1)
-    turned h e g is test =
+    pub turned : i < length es → (e : Entry) (g : Bool) → e ≡ get_or es i no_entry → g ≡ good_entry cells least e → (c : ℕ) → c ≡ e.cell → SoFar es cells (ok && g) (c + 1) (i + 1)
+    turned h e g is test c cell =
         record {
           within_es = omega arith;
           whole =
               so.whole
               ∙ ap (λ (l : List Entry). ok && good_from cells least l) (drop-cons es i no_entry h)
               ∙ ap (λ (x : Entry). ok && (good_entry cells least x && good_from cells (x.cell + 1) (drop (suc i) es))) (sym is)
-              ∙ rw (← test, ← (add-one i)) (sym (and_assoc ok g _));
+              ∙ rw (← test, ← (add-one i), ← cell) (sym (and_assoc ok g _));
         }
 
     pub ended : length es ≤ i → ok ≡ good_entries cells es
     ended h = sym (so.whole ∙ rw (drop_of_length-le es h) (and-true ok))
 
--- over the first n entries of bytes
-module _ (s : List ℕ) (n cells : ℕ) (ok : Bool) (least i : ℕ) (so : SoFar (entries_of n s) cells ok least i) where
-  pub turned_in_bytes : i < n → (e : Entry) → e ≡ entry_of (drop (6 * i) s) → (g : Bool) → g ≡ good_entry cells least e → SoFar (entries_of n s) cells (ok && g) (e.cell + 1) (i + 1)
-  turned_in_bytes h e is g test =
-      turned (entries_of n s) cells ok least i so (omega (arith, entries_count n s)) e g (is ∙ sym (entry_of_entries n i s no_entry h)) test
+-- ---- the first n entries of bytes, in sixes
 
-  pub ended_in_bytes : n ≤ i → ok ≡ good_entries cells (entries_of n s)
-  ended_in_bytes h = ended (entries_of n s) cells ok least i so (omega (arith, entries_count n s))
+pub entry_of_six : (l : List ℕ) → entry_of (take 6 l) ≡ entry_of l
+entry_of_six [] = refl
+entry_of_six (a ∷ []) = refl
+entry_of_six (a ∷ b ∷ []) = refl
+entry_of_six (a ∷ b ∷ c ∷ []) = refl
+entry_of_six (a ∷ b ∷ c ∷ d ∷ []) = refl
+entry_of_six (a ∷ b ∷ c ∷ d ∷ e ∷ []) = refl
+entry_of_six (a ∷ b ∷ c ∷ d ∷ e ∷ f ∷ l) = refl
 
--- the same for a loop that goes on while all is good, and stops where something is not
-module _ (s : List ℕ) (n cells least i : ℕ) (so : SoFar (entries_of n s) cells true least i) (h : i < n) (e : Entry) (is : e ≡ entry_of (drop (6 * i) s)) (g : Bool) (test : g ≡ good_entry cells least e) where
-  next : SoFar (entries_of n s) cells g (e.cell + 1) (i + 1)
-  next = turned_in_bytes s n cells true least i so h e is g test
+entry_in_sixes : (n m i : ℕ) (s : List ℕ) → i < n → n ≤ m → entry_of (get_or (take n (first_chunks 6 m s)) i []) ≡ get_or (entries_of n s) i no_entry
+entry_in_sixes zero m i s h k = absurd (not-suc-le-zero h)
+entry_in_sixes (suc n) zero i s h k = absurd (not-suc-le-zero k)
+entry_in_sixes (suc n) (suc m) zero s h k = entry_of_six s
+entry_in_sixes (suc n) (suc m) (suc i) s h k = entry_in_sixes n m i (drop 6 s) (le_of_suc-le-suc h) (le_of_suc-le-suc k)
 
-  pub goes_on_in_bytes : not g ≡ false → SoFar (entries_of n s) cells true (e.cell + 1) (i + 1)
-  goes_on_in_bytes on = subst (λ (t : Bool). SoFar (entries_of n s) cells t (e.cell + 1) (i + 1)) (not-false g on) next
+pub record AreSixes (s : List ℕ) (n : ℕ) (sixes : List (List ℕ)) : Type 0 where
+  pub count : length sixes ≡ n
+  pub room : 6 * n ≤ length s
+  pub each : (i : ℕ) → i < n → entry_of (get_or sixes i []) ≡ get_or (entries_of n s) i no_entry
 
-  pub stops_in_bytes : not g ≡ true → false ≡ good_entries_in s n cells
-  stops_in_bytes off = sym (ap (λ (x : Bool). leb (6 * n) (length s) && x) next.whole ∙ rw (not-true g off) (and-false (leb (6 * n) (length s))))
+pub are_sixes : (s : List ℕ) (n : ℕ) (all sixes : List (List ℕ)) → all ≡ first_chunks 6 (length s / 6) s → length all ≡ length s / 6
+    → n ≤ length all → sixes ≡ slice_range all 0 n → length sixes + 0 ≡ n → AreSixes s n sixes
+are_sixes s n all sixes chunks parts enough are long =
+    let none : n - 0 ≡ n = omega arith in
+    record {
+      count = omega arith;
+      room = omega arith;
+      each = λ i h. ap (λ (l : List (List ℕ)). entry_of (get_or l i [])) (are ∙ rw none (ap (take n) chunks)) ∙ entry_in_sixes n (length s / 6) i s h (omega arith);
+    }
 
-pub ends_in_bytes : (s : List ℕ) (n cells least i : ℕ) → SoFar (entries_of n s) cells true least i → 6 * n ≤ length s → n ≤ i → true ≡ good_entries_in s n cells
-ends_in_bytes s n cells least i so room h = ended_in_bytes s n cells true least i so h ∙ sym (rw (le-leb (6 * n) (length s) room))
+-- a loop over them, that goes on while all is good, and stops where something is not
+module _ (s : List ℕ) (n cells : ℕ) (sixes : List (List ℕ)) (are : AreSixes s n sixes) (least i : ℕ) (so : SoFar (entries_of n s) cells true least i) where
+  module _ (h : i < length sixes) (e : Entry) (is : e ≡ entry_of (get_or sixes i [])) (g : Bool) (test : g ≡ good_entry cells least e) where
+    next : (c : ℕ) → c ≡ e.cell → SoFar (entries_of n s) cells g (c + 1) (i + 1)
+    next c cell =
+        let here : i < n = omega (arith, are.count) in
+        turned (entries_of n s) cells true least i so (omega (arith, entries_count n s)) e g (is ∙ are.each i here) test c cell
 
-pub cut_in_bytes : (s : List ℕ) (n cells : ℕ) → length s < 6 * n → false ≡ good_entries_in s n cells
-cut_in_bytes s n cells h = rw (lt-leb (6 * n) (length s) h)
+    pub goes_on : g ≡ true → (c : ℕ) → c ≡ e.cell → SoFar (entries_of n s) cells true (c + 1) (i + 1)
+    goes_on on c cell = subst (λ (t : Bool). SoFar (entries_of n s) cells t (c + 1) (i + 1)) on (next c cell)
 
--- ---- one entry, test by test
+    pub stops : g ≡ false → false ≡ good_entries_in s n cells
+    stops off = sym (ap (λ (x : Bool). leb (6 * n) (length s) && x) (next e.cell refl).whole ∙ rw off (and-false (leb (6 * n) (length s))))
 
-module _ (cells least : ℕ) (e : Entry) where
-  pub cell_low : e.cell < least → false ≡ good_entry cells least e
-  cell_low h = rw (lt-leb least e.cell h)
-
-  module _ (up : least ≤ e.cell) where
-    pub cell_high : cells ≤ e.cell → false ≡ good_entry cells least e
-    cell_high h = rw (le-leb least e.cell up, le-ltb e.cell cells h)
-
-    module _ (low : e.cell < cells) where
-      by_kind : good_entry cells least e ≡ kind_and_day e
-      by_kind = rw (le-leb least e.cell up, lt-ltb e.cell cells low)
-
-      pub kind_day : e.kind ≡ 2 → true ≡ good_entry cells least e
-      kind_day k = sym (by_kind ∙ rw (eq-eqb e.kind 2 k) (or-true (eqb e.kind 1 && eqb e.day 0)))
-
-      pub kind_other : (e.kind ≡ 2 → ⊥) → eqb e.kind 1 && eqb e.day 0 ≡ good_entry cells least e
-      kind_other k = sym (by_kind ∙ rw (ne_eqb e.kind 2 k) (or-false (eqb e.kind 1 && eqb e.day 0)))
-
-pub ruleset entry_tests = (cell_low, cell_high, kind_day, kind_other)
+  pub ends : length sixes ≤ i → true ≡ good_entries_in s n cells
+  ends h =
+      ended (entries_of n s) cells true least i so (omega (arith, entries_count n s, are.count))
+      ∙ sym (rw (le-leb (6 * n) (length s) are.room))
 
 -- ---- good is its two parts
 
@@ -251,49 +256,3 @@ open_or_day e g = by_kind (eqb e.kind 2) refl
         let one : eqb e.kind 1 && eqb e.day 0 ≡ true = sym (or-false _) ∙ (rw p at g) in
         let k : e.kind ≡ 1 = search tested in
         is_open k (ap (λ (x : ℕ). content_of x (to_z w32 e.day)) k)
-
--- ---- a trailer, test by test
-
-one_by_one : (a d c s z t l : Bool) → a && (d && c) && s && z && (t && l) ≡ a && (d && (c && (s && z && (t && l))))
-one_by_one a d c s z t l = simp in_any_order
-
-module _ (t : Trailer) (back : ℕ) where
-  abbrev distances : Bool
-  distances = eqb t.distance (6 * t.entries) && eqb t.distance back
-
-  abbrev others : Bool
-  others = ltb t.sender t.desks && (eqb t.zero6 0 && eqb t.zero7 0)
-
-  abbrev turns : Bool
-  turns = leb t.turn 4294967294 && eqb (t.turn % t.desks) t.sender
-
-  in_turn : good_trailer t back ≡ distances && (desks_within t.desks && (cells_within t.cells && (others && turns)))
-  in_turn =
-      one_by_one distances (desks_within t.desks) (cells_within t.cells) (ltb t.sender t.desks) (eqb t.zero6 0 && eqb t.zero7 0) (leb t.turn 4294967294) (eqb (t.turn % t.desks) t.sender)
-
-  pub distance_off : not distances ≡ true → false ≡ good_trailer t back
-  distance_off off = sym (in_turn ∙ rw (not-true distances off))
-
-  module _ (a : not distances ≡ false) where
-    pub desks_off : not (desks_within t.desks) ≡ true → false ≡ good_trailer t back
-    desks_off off = sym (in_turn ∙ rw (not-false distances a, not-true (desks_within t.desks) off))
-
-    module _ (d : not (desks_within t.desks) ≡ false) where
-      pub cells_off : not (cells_within t.cells) ≡ true → false ≡ good_trailer t back
-      cells_off off = sym (in_turn ∙ rw (not-false distances a, not-false (desks_within t.desks) d, not-true (cells_within t.cells) off))
-
-      module _ (c : not (cells_within t.cells) ≡ false) where
-        so_far : good_trailer t back ≡ others && turns
-        so_far = in_turn ∙ rw (not-false distances a, not-false (desks_within t.desks) d, not-false (cells_within t.cells) c)
-
-        pub others_off : not others ≡ true → false ≡ good_trailer t back
-        others_off off = sym (so_far ∙ rw (not-true others off))
-
-        module _ (o : not others ≡ false) where
-          pub turn_off : 4294967294 < t.turn → false ≡ good_trailer t back
-          turn_off h = sym (so_far ∙ rw (not-false others o, lt-leb t.turn 4294967294 h))
-
-          pub turn_left : t.turn ≤ 4294967294 → (left : ℕ) → left ≡ t.turn % t.desks → eqb left t.sender ≡ good_trailer t back
-          turn_left h left is = ap (λ (k : ℕ). eqb k t.sender) is ∙ sym (so_far ∙ rw (not-false others o, le-leb t.turn 4294967294 h))
-
-pub ruleset trailer_tests = (distance_off, desks_off, cells_off, others_off, turn_off, turn_left)

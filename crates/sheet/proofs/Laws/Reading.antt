@@ -2,7 +2,7 @@
 --   readings                     a set for `search`: what `read` knows at each of its returns, and what it then answers
 --   good_read, bad_read          what reading gives, by `good` alone
 --   said_good, said_bad          what a reading says of `good`
---   trailers                     a set for `search`: what `trailer_of` gives, by the length
+--   trailer_none, trailer_there  what `trailer_of` gives, by the length
 --   said_read_tells_apart : ReadingsApart (specs/Promises.antt)
 --   entries_in_place : EntriesInPlace (specs/Promises.antt)
 -- Assumes nothing.
@@ -45,6 +45,17 @@ module _ (s : List ℕ) where
   unfolding reading_of
   bad_read g = rw g
 
+-- ---- the trailer at the end
+
+module _ (s : List ℕ) where
+  pub trailer_none : length s < 12 → no_trailer ≡ trailer_at_end s
+  unfolding trailer_at_end
+  trailer_none h = rw (lt-leb 12 (length s) h)
+
+  pub trailer_there : 12 ≤ length s → trailer_at_end s ≡ trailer_in s
+  unfolding trailer_at_end
+  trailer_there h = rw (le-leb 12 (length s) h)
+
 -- ---- as the code goes
 
 -- what `read` knows of a test of its own: that the sheet may still be good, or that it is not
@@ -64,9 +75,12 @@ module _ (s : List ℕ) where
   pub read_short : (x : Refusal) → stopped (ltb (length s) 12) x → (r : Result Numbers Refusal) → r ≡ Err x → said_read s r ≡ reading_of s
   read_short x test r is = refuses (ltb (length s) 12) (λ short. too_short_is_bad s (ltb-true (length s) 12 short)) x test r is
 
-  module _ (on : went_on (ltb (length s) 12)) (t : Trailer) (is : t ≡ trailer_in s) where
+  module _ (on : went_on (ltb (length s) 12)) (t : Trailer) (at_end : t ≡ trailer_at_end s) where
     long : 12 ≤ length s
     long = ltb-false (length s) 12 (when_went_on refusal.SheetNotGood (ltb (length s) 12) on)
+
+    is : t ≡ trailer_in s
+    is = at_end ∙ trailer_there s long
 
     good_by : good s ≡ good_trailer t (length s - 12) && good_entries t.cells (entries_of t.entries s)
     good_by = good_is s long ∙ ap (λ (x : Trailer). good_trailer x (length s - 12) && good_entries x.cells (entries_of x.entries s)) (sym is)
@@ -99,19 +113,6 @@ module _ (s : List ℕ) where
               ∙ sym (good_read s (in_bytes ∙ not-false b (when_went_on refusal.SheetNotGood (not b) all)))
 
 pub ruleset readings = (read_short, read_bad_trailer, read_bad_entries, read_good)
-
--- ---- the trailer at the end
-
-module _ (s : List ℕ) where
-  pub trailer_none : length s < 12 → no_trailer ≡ trailer_at_end s
-  unfolding trailer_at_end
-  trailer_none h = rw (lt-leb 12 (length s) h)
-
-  pub trailer_there : 12 ≤ length s → (t : Trailer) → t ≡ trailer_in s → t ≡ trailer_at_end s
-  unfolding trailer_at_end
-  trailer_there h t is = is ∙ sym (rw (le-leb 12 (length s) h))
-
-pub ruleset trailers = (trailer_none, trailer_there)
 
 -- ---- the answer
 

@@ -1,13 +1,9 @@
 -- `good::good_entries` meets its contract: what is tested so far is good, and the rest is the whole (`SoFar`).
 -- Assumes nothing.
 use mathlib.Core.Bool.{true}
-use Prim.Native.Nat.{◌-◌, ◌≤◌}
 use Rattle.layout.specs.Layout.{entries_of}
 use Rattle.sheet.proofs.Laws.Good.{SoFar}
 use Rattle.sheet.proofs.good.good_entries.Given as goal
 
-abbrev pub invariant-loop-i : goal.invariant-loop-i
-invariant-loop-i l = (l.i ≤ l.n) × SoFar (entries_of l.n l.s) l.cells true l.least l.i
-
-abbrev pub decreases-loop-i : goal.decreases-loop-i
-decreases-loop-i l = l.n - l.i
+abbrev pub invariant-loop-six : goal.invariant-loop-six
+invariant-loop-six l = SoFar (entries_of l.n l.s) l.cells true l.least l.six-index
