@@ -1,16 +1,35 @@
 // The bytes of an entry and of a trailer, read.
 ghost use Rattle.std.specs.Prelude.{◌≡◌};
+ghost use Rattle.layout.specs.declared.Entry.{Entry};
 ghost use Rattle.layout.specs.Layout.{entry_of, trailer_of};
 
 use layout::{Entry, Trailer};
 
-pub(crate) fn entry_of(b: &[u8; 6]) -> Entry
-    ensures { result ≡ entry_of b.now }
-{
-    Entry {
-        cell: b[0],
-        kind: b[1],
-        day: u32::from_le_bytes([b[2], b[3], b[4], b[5]]),
+// What is read as an entry: the six bytes of one, or an entry itself.
+pub trait AsEntry {
+    ghost read_as: { Self → Entry };
+
+    fn as_entry(self) -> Entry
+        ensures { result ≡ read_as self };
+}
+
+impl AsEntry for [u8; 6] {
+    ghost read_as = { λ b. entry_of b };
+
+    fn as_entry(self) -> Entry {
+        Entry {
+            cell: self[0],
+            kind: self[1],
+            day: u32::from_le_bytes([self[2], self[3], self[4], self[5]]),
+        }
+    }
+}
+
+impl AsEntry for Entry {
+    ghost read_as = { λ e. e };
+
+    fn as_entry(self) -> Entry {
+        self
     }
 }
 

@@ -1,8 +1,9 @@
 // The clauses of "A sheet is good if", of its trailer and of its entries.
-ghost use Rattle.std.specs.Prelude.{◌≡◌};
-ghost use Rattle.sheet.specs.Clauses.{good_trailer, good_entry, good_entries_in};
+ghost use Rattle.std.specs.Prelude.{◌≡◌, map};
+ghost use Rattle.layout.specs.Values.{DaysFit};
+ghost use Rattle.sheet.specs.Clauses.{good_trailer, good_entry, good_entries, good_entries_in};
 
-use crate::bytes;
+use crate::AsEntry;
 use layout::{Entry, Trailer};
 
 // A trailer with `back` bytes before it. What a desk's number is divided by is tested before it is.
@@ -28,22 +29,28 @@ pub fn good_entry(cells: u8, least: u32, e: Entry) -> bool
     least <= u32::from(e.cell) && e.cell < cells && ((e.kind == 1 && e.day == 0) || e.kind == 2)
 }
 
-// The first n entries of bytes, each looked at once, up to the first that is not good; none is
-// where the bytes end before them.
+// Entries of a sheet with so many cells, given or read, each looked at once.
+pub fn all_good<E: AsEntry + Copy>(es: &[E], cells: u8) -> bool
+    ensures clauses { result ≡ good_entries cells (map E.read_as es.now) }
+    ensures days { DaysFit (map E.read_as es.now) }
+{
+    let mut good = true;
+    let mut least = 0;
+    for e in es {
+        let e = e.as_entry();
+        good &= good_entry(cells, least, e);
+        least = u32::from(e.cell) + 1;
+    }
+    good
+}
+
+// The first n entries of bytes; none is where the bytes end before them.
 pub fn good_entries(s: &[u8], n: u8, cells: u8) -> bool
     ensures { result ≡ good_entries_in s.now n cells }
 {
     let (sixes, _) = s.as_chunks::<6>();
-    let Some(entries) = sixes.get(..usize::from(n)) else {
-        return false;
-    };
-    let mut least = 0;
-    for six in entries {
-        let e = bytes::entry_of(six);
-        if !good_entry(cells, least, e) {
-            return false;
-        }
-        least = u32::from(e.cell) + 1;
+    match sixes.get(..usize::from(n)) {
+        Some(entries) => all_good(entries, cells),
+        None => false,
     }
-    true
 }

@@ -12,7 +12,8 @@ mod bytes;
 mod good;
 
 use answer::Refusal;
-pub use good::{good_entries, good_entry, good_trailer};
+pub use bytes::AsEntry;
+pub use good::{all_good, good_entries, good_entry, good_trailer};
 use layout::{Entry, Numbers, Trailer};
 
 // 01, "Reading a sheet: 13." Any slice, of any length: the numbers of a good sheet, whose entries
@@ -45,7 +46,7 @@ pub fn entry_at(s: &[u8], k: u8) -> Entry
 {
     let at = 6 * usize::from(k);
     match s.get(at..at + 18).and_then(|room| room.first_chunk()) {
-        Some(six) => bytes::entry_of(six),
-        None => bytes::entry_of(&[0; 6]),
+        Some(six) => six.as_entry(),
+        None => [0; 6].as_entry(),
     }
 }

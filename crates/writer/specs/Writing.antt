@@ -1,14 +1,14 @@
 -- 01, "Numbers given back": "Writing one from given entries and numbers: 13 if it would not be good, 11; bytes past it stay."
 -- 13 is "sheet not good", 11 "buffer shorter than the sheet"; a refusal leaves "all lent bytes .. as before".
 -- Assumes nothing.
-use Rattle.std.specs.Prelude.{◌≡◌, not, List, [], ◌∷◌, ◌++◌, ℕ, ltb, length, drop}
-use Rattle.answer.specs.Answer.{Answer, Rule, refused, answered, ◌if◌, answer, leaves}
+use Rattle.std.specs.Prelude.{◌≡◌, not, Result, List, [], ◌∷◌, ◌++◌, ℕ, ltb, length, drop}
+use Rattle.answer.specs.Answer.{Answer, Rule, ◌if◌, answer, leaves}
+use Rattle.answer.specs.declared.Refusal.{Refusal}
+use Rattle.answer.specs.Refusals.{said}
 use Rattle.layout.specs.declared.Entry.{Entry}
 use Rattle.layout.specs.declared.Numbers.{Numbers}
 use Rattle.layout.specs.Layout.{sheet_for}
 use Rattle.sheet.specs.Good.{good}
-use Rattle.writer.specs.declared.Written.{Written}
-use Rattle.writer.specs.declared.Written.TheVariants as written
 
 -- for a sheet's bytes and a buffer: 13, then 11
 abbrev pub writing_rules : List ℕ → List ℕ → List Rule
@@ -22,12 +22,11 @@ written_of n es buf = answer (writing_rules (sheet_for n es) buf) (length (sheet
 unfoldable pub buffer_of : Numbers → List Entry → List ℕ → List ℕ
 buffer_of n es buf = leaves (writing_rules (sheet_for n es) buf) buf (sheet_for n es ++ drop (length (sheet_for n es)) buf)
 
--- what each case of the code's enum says
-abbrev pub said_written : Written → Answer ℕ
-said_written (written.Sheet n) = answered n
-said_written (written.Refused k) = refused k
+-- what the code's answer says
+abbrev pub said_written : Result ℕ Refusal → Answer ℕ
+said_written r = said (λ len. len) r
 
 -- a call that found the buffer `before`, left it as `after` and answered r
-pub record Writes (n : Numbers) (es : List Entry) (before : List ℕ) (r : Written) (after : List ℕ) : Type 0 where
+pub record Writes (n : Numbers) (es : List Entry) (before : List ℕ) (r : Result ℕ Refusal) (after : List ℕ) : Type 0 where
   pub answers : said_written r ≡ written_of n es before
   pub buffer : after ≡ buffer_of n es before

@@ -13,14 +13,8 @@ ghost use Rattle.writer.specs.Writing.{Writes};
 
 mod given;
 
+use answer::Refusal;
 use layout::{Entry, Numbers, Trailer};
-
-#[derive(Clone, Copy)]
-pub enum Written {
-    // The sheet's length.
-    Sheet(usize),
-    Refused(u8),
-}
 
 // Lays an entry's 6 bytes over the buffer from `at` on; without room it leaves every byte.
 pub fn put_entry(buf: &mut [u8], at: usize, e: Entry)
@@ -43,27 +37,20 @@ pub fn put_trailer(buf: &mut [u8], at: usize, t: Trailer)
     laying::put(buf, at, &twelve);
 }
 
-// Writes the sheet of these numbers and of as many of these entries as they say. Refusals 13, 11.
-pub fn write(buf: &mut [u8], n: Numbers, es: [Entry; 64]) -> Written
-    ensures { Writes n es buf.old result buf.new }
+// Writes the sheet of these numbers and of as many of these entries as they say, and gives its
+// length. Refusals 13, 11.
+pub fn write(buf: &mut [u8], n: Numbers, es: &[Entry]) -> Result<usize, Refusal>
+    ensures { Writes n es.now buf.old result buf.new }
 {
-    let count = n.entries as usize;
-    if 64 < count {
-        return Written::Refused(13);
-    }
-    let back = 6 * count;
+    let es = es
+        .get(..usize::from(n.entries))
+        .ok_or(Refusal::SheetNotGood)?;
+    let back = 6 * es.len();
     let t = Trailer::from(n);
-    if !sheet::good_trailer(t, back) {
-        return Written::Refused(13);
-    }
-    if !given::good_entries(es, count, n.cells) {
-        return Written::Refused(13);
-    }
-    let len = back + 12;
-    if buf.len() < len {
-        return Written::Refused(11);
-    }
-    given::put_entries(buf, es, count);
+    Refusal::SheetNotGood.when(!sheet::good_trailer(t, back))?;
+    Refusal::SheetNotGood.when(!sheet::all_good(es, n.cells))?;
+    Refusal::BufferShort.when(buf.len() < back + 12)?;
+    given::put_entries(buf, es);
     put_trailer(buf, back, t);
-    Written::Sheet(len)
+    Ok(back + 12)
 }

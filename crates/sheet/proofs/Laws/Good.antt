@@ -1,6 +1,7 @@
 -- Laws of `good` (specs/Good.antt) and of its parts (specs/Parts.antt).
 --   SoFar, begun, turned, ended              a loop over entries, wherever they stand
---   AreSixes, are_sixes, goes_on, stops, ends       the same over the first entries of bytes, as the code cuts them, up to one that is not good
+--   TestedSoFar, tested_begun, tested_turned, tested_ended        the same, and that their days have 32 bits; mapped
+--   sixes_good                               the first entries of bytes, as the code cuts them
 --   good_is, too_short_is_bad                good is its two parts; fewer than 12 bytes are no sheet
 --   fair_trailer                             a good trailer's clauses as facts
 --   good_is_long, good_trailer_is_fair, good_entries_are, good_length, good_within    what a good sheet is known to be
@@ -8,21 +9,22 @@
 --   sheet_bad, sheet_good                    the bytes of values are good exactly if the values are
 --   open_or_day                              contents in entries
 -- Assumes nothing.
-use mathlib.Core.Path.{◌≡◌, refl, sym, ap, ◌∙◌, subst}
-use mathlib.Core.List.{List, [], ◌∷◌}
-use mathlib.Core.Bool.{Bool, true, false, ◌&&◌, and-true, and_assoc, and-false, or-false, false≢true}
+use mathlib.Core.Path.{◌≡◌, refl, sym, ap, ◌∙◌}
+use mathlib.Core.List.{List, [], ◌∷◌, ◌++◌}
+use mathlib.Core.Bool.{Bool, true, false, ◌&&◌, and-true, and_assoc, or-false, false≢true}
 use Prim.Native.Nat.{ℕ, zero, suc, ◌+◌, ◌*◌, ◌/◌, ◌-◌, ◌%◌, ◌<◌, ◌≤◌}
 use native.Mathlib.Omega.{arith}
 use native.Mathlib.Numerals.{add-one}
 use lib.ListN.{length, get_or, take, drop, drop_of_length-le}
-use lib.Seq.{drop-cons}
+use Rattle.std.proofs.lemmas.List.{get_or-map}
+use lib.Seq.{drop-cons, take-suc, take_all}
 use lib.Dec.{eqb, leb, ltb}
 use borrow.Author.Tests.{le-leb, lt-leb, eqb-true, leb-true, leb-false}
 use mir.Syntax.{w32}
 use mir.Val.{to_z}
 use native.Mathlib.Nat.{not-suc-le-zero, le_of_suc-le-suc}
 use Rattle.std.specs.Simd.{first_chunks}
-use Rattle.std.specs.Prelude.{slice_range}
+use Rattle.std.specs.Prelude.{map, slice_range}
 use Rattle.content.specs.Content.{content_of}
 use Rattle.layout.specs.declared.Entry.{Entry}
 use Rattle.layout.specs.declared.Trailer.{Trailer}
@@ -31,7 +33,7 @@ use Rattle.numbers.specs.Limits.{desks_within, cells_within}
 use Rattle.numbers.proofs.Tests.{and_split, tested}
 use Rattle.sheet.specs.Good.{every, next_above, rising, below, kind_and_day, good}
 use Rattle.sheet.specs.Promises.{OpenOrDay, is_open, is_day}
-use Rattle.layout.specs.Values.{DaysFit}
+use Rattle.layout.specs.Values.{DaysFit, no_days, a_day}
 use Rattle.sheet.specs.Reading.{no_entry}
 use Rattle.sheet.specs.Promises.{GoodWithin}
 use Rattle.sheet.specs.Clauses.{good_trailer, good_entry, good_entries, good_entries_in}
@@ -92,6 +94,38 @@ module _ (es : List Entry) (cells : ℕ) where
     pub ended : length es ≤ i → ok ≡ good_entries cells es
     ended h = sym (so.whole ∙ rw (drop_of_length-le es h) (and-true ok))
 
+pub one_more : (es : List Entry) (i : ℕ) → i < length es → take (i + 1) es ≡ take i es ++ (get_or es i no_entry ∷ [])
+one_more es i h = rw add-one (take-suc es i no_entry h)
+
+days_append : {es : List Entry} → DaysFit es → (e : Entry) → e.day < 4294967296 → DaysFit (es ++ (e ∷ []))
+days_append no_days e h = a_day h no_days
+days_append (a_day k f) e h = a_day k (days_append f e h)
+
+-- an element of what entries are read from
+pub mapped : {X : Type 0} (f : X → Entry) (xs : List X) (i : ℕ) (x : X) → x ≡ get_or xs i x → i < length xs → f x ≡ get_or (map f xs) i no_entry
+mapped f xs i x is h = ap f is ∙ sym (get_or-map f xs i x no_entry h)
+
+-- the same, and that their days have 32 bits
+pub record TestedSoFar (es : List Entry) (cells : ℕ) (ok : Bool) (least i : ℕ) : Type 0 where
+  pub tested : SoFar es cells ok least i
+  pub days : DaysFit (take i es)
+
+module _ (es : List Entry) (cells : ℕ) where
+  pub tested_begun : TestedSoFar es cells true 0 0
+  tested_begun = record { tested = begun es cells; days = no_days }
+
+  module _ (ok : Bool) (least i : ℕ) (so : TestedSoFar es cells ok least i) where
+    pub tested_turned : i < length es → (e : Entry) → e ≡ get_or es i no_entry → (g : Bool) → g ≡ good_entry cells least e → e.day < 4294967296
+        → (c : ℕ) → c ≡ e.cell → TestedSoFar es cells (ok && g) (c + 1) (i + 1)
+    tested_turned h e is g test day c cell =
+        record {
+          tested = turned es cells ok least i so.tested h e g is test c cell;
+          days = rw (one_more es i h, ← is) (days_append so.days e day);
+        }
+
+    pub tested_ended : length es ≤ i → (ok ≡ good_entries cells es) × DaysFit es
+    tested_ended h = (ended es cells ok least i so.tested h, rw (take_all i es h) at so.days)
+
 -- ---- the first n entries of bytes, in sixes
 
 pub entry_of_six : (l : List ℕ) → entry_of (take 6 l) ≡ entry_of l
@@ -103,45 +137,20 @@ entry_of_six (a ∷ b ∷ c ∷ d ∷ []) = refl
 entry_of_six (a ∷ b ∷ c ∷ d ∷ e ∷ []) = refl
 entry_of_six (a ∷ b ∷ c ∷ d ∷ e ∷ f ∷ l) = refl
 
-entry_in_sixes : (n m i : ℕ) (s : List ℕ) → i < n → n ≤ m → entry_of (get_or (take n (first_chunks 6 m s)) i []) ≡ get_or (entries_of n s) i no_entry
-entry_in_sixes zero m i s h k = absurd (not-suc-le-zero h)
-entry_in_sixes (suc n) zero i s h k = absurd (not-suc-le-zero k)
-entry_in_sixes (suc n) (suc m) zero s h k = entry_of_six s
-entry_in_sixes (suc n) (suc m) (suc i) s h k = entry_in_sixes n m i (drop 6 s) (le_of_suc-le-suc h) (le_of_suc-le-suc k)
+sixes_are : (n m : ℕ) (s : List ℕ) → n ≤ m → map entry_of (take n (first_chunks 6 m s)) ≡ entries_of n s
+sixes_are zero m s h = refl
+sixes_are (suc n) zero s h = absurd (not-suc-le-zero h)
+sixes_are (suc n) (suc m) s h = rw (entry_of_six s, sixes_are n m (drop 6 s) (le_of_suc-le-suc h))
 
-pub record AreSixes (s : List ℕ) (n : ℕ) (sixes : List (List ℕ)) : Type 0 where
-  pub count : length sixes ≡ n
-  pub room : 6 * n ≤ length s
-  pub each : (i : ℕ) → i < n → entry_of (get_or sixes i []) ≡ get_or (entries_of n s) i no_entry
-
-pub are_sixes : (s : List ℕ) (n : ℕ) (all sixes : List (List ℕ)) → all ≡ first_chunks 6 (length s / 6) s → length all ≡ length s / 6
-    → n ≤ length all → sixes ≡ slice_range all 0 n → length sixes + 0 ≡ n → AreSixes s n sixes
-are_sixes s n all sixes chunks parts enough are long =
+-- what is found of them is found of the bytes
+pub sixes_good : (s : List ℕ) (n cells : ℕ) (all sixes : List (List ℕ)) → all ≡ first_chunks 6 (length s / 6) s → length all ≡ length s / 6
+    → n ≤ length all → sixes ≡ slice_range all 0 n → good_entries cells (map entry_of sixes) ≡ good_entries_in s n cells
+sixes_good s n cells all sixes chunks parts enough are =
     let none : n - 0 ≡ n = omega arith in
-    record {
-      count = omega arith;
-      room = omega arith;
-      each = λ i h. ap (λ (l : List (List ℕ)). entry_of (get_or l i [])) (are ∙ rw none (ap (take n) chunks)) ∙ entry_in_sixes n (length s / 6) i s h (omega arith);
-    }
-
--- a loop over them, that goes on while all is good, and stops where something is not
-module _ (s : List ℕ) (n cells : ℕ) (sixes : List (List ℕ)) (are : AreSixes s n sixes) (least i : ℕ) (so : SoFar (entries_of n s) cells true least i) where
-  module _ (h : i < length sixes) (e : Entry) (is : e ≡ entry_of (get_or sixes i [])) (g : Bool) (test : g ≡ good_entry cells least e) where
-    next : (c : ℕ) → c ≡ e.cell → SoFar (entries_of n s) cells g (c + 1) (i + 1)
-    next c cell =
-        let here : i < n = omega (arith, are.count) in
-        turned (entries_of n s) cells true least i so (omega (arith, entries_count n s)) e g (is ∙ are.each i here) test c cell
-
-    pub goes_on : g ≡ true → (c : ℕ) → c ≡ e.cell → SoFar (entries_of n s) cells true (c + 1) (i + 1)
-    goes_on on c cell = subst (λ (t : Bool). SoFar (entries_of n s) cells t (c + 1) (i + 1)) on (next c cell)
-
-    pub stops : g ≡ false → false ≡ good_entries_in s n cells
-    stops off = sym (ap (λ (x : Bool). leb (6 * n) (length s) && x) (next e.cell refl).whole ∙ rw off (and-false (leb (6 * n) (length s))))
-
-  pub ends : length sixes ≤ i → true ≡ good_entries_in s n cells
-  ends h =
-      ended (entries_of n s) cells true least i so (omega (arith, entries_count n s, are.count))
-      ∙ sym (rw (le-leb (6 * n) (length s) are.room))
+    let front : sixes ≡ take n (first_chunks 6 (length s / 6) s) = are ∙ rw none (ap (take n) chunks) in
+    ap (λ (l : List (List ℕ)). good_entries cells (map entry_of l)) front
+    ∙ ap (good_entries cells) (sixes_are n (length s / 6) s (omega arith))
+    ∙ sym (rw (le-leb (6 * n) (length s) (omega arith)))
 
 -- ---- good is its two parts
 

@@ -1,45 +1,49 @@
 -- Laws of `written_of`, `buffer_of` and `Writes` (specs/Writing.antt).
---   writings                       a set for `search`: what `write` knows at each of its returns, and what it then leaves and answers
+--   FirstOf, first_of              the entries that it takes
+--   write_too_few, write_bad_trailer, write_bad_entries, write_too_short, write_whole      what it leaves and answers at each of its returns
 --   refused_writes_nothing : RefusedWritesNothing, said_written_tells_apart : WritingsApart (specs/Promises.antt)
 -- Assumes nothing.
-use mathlib.Core.Path.{◌≡◌, refl, sym, ap, ◌∙◌}
-use mathlib.Core.List.{List, ◌++◌}
+use mathlib.Core.Path.{subst, ◌≡◌, refl, sym, ap, ◌∙◌}
+use mathlib.Core.List.{List, ◌++◌, map}
 use mathlib.Core.Bool.{Bool, true, false, not}
-use Prim.Native.Nat.{ℕ, ◌+◌, ◌*◌, ◌<◌, ◌≤◌}
+use Prim.Native.Nat.{ℕ, ◌+◌, ◌-◌, ◌*◌, ◌<◌, ◌≤◌}
 use native.Mathlib.Omega.{arith}
 use lib.ListN.{length, take, drop, length-take}
-use lib.Seq.{length-take-le}
-use borrow.Author.Tests.{lt-ltb, le-ltb, not-true, not-false}
-use Rattle.answer.proofs.Laws.{again, apart, refused_changes_nothing}
+use lib.Dec.{ltb}
+use borrow.Author.Tests.{ltb-true, ltb-false, lt-ltb, le-ltb, not-true, not-false}
+use Rattle.answer.proofs.Laws.{refused_changes_nothing}
 use Rattle.layout.specs.declared.Entry.{Entry}
 use Rattle.layout.specs.declared.Numbers.{Numbers}
 use Rattle.layout.specs.declared.Trailer.{Trailer}
-use Rattle.layout.specs.Layout.{entries_bytes, trailer_bytes, trailer_for, sheet_for}
+use Rattle.layout.specs.Layout.{entries_bytes, sheet_bytes, trailer_bytes, trailer_for, sheet_for}
 use Rattle.sheet.specs.Good.{good}
-use Rattle.sheet.specs.Clauses.{good_trailer}
-use Rattle.layout.specs.Values.{NumbersFit}
+use Rattle.sheet.specs.Clauses.{good_trailer, good_entries}
+use Rattle.layout.specs.Values.{NumbersFit, DaysFit}
 use Rattle.layout.proofs.Laws.{TrailerFits, entries_length, sheet_length}
 use Rattle.sheet.proofs.Laws.Good.{fair_trailer, sheet_bad, sheet_good}
-use Rattle.writer.specs.declared.Written.{Written}
-use Rattle.writer.specs.declared.Written.TheVariants as written
+use Rattle.std.specs.Prelude.{Result, Ok, Err, slice_range}
+use Rattle.std.proofs.lemmas.List.{map-id}
+use Rattle.answer.specs.declared.Refusal.{Refusal}
+use Rattle.answer.specs.Refusals.{refused_when}
+use Rattle.answer.specs.declared.Refusal.TheVariants as refusal
+use Rattle.answer.proofs.Refusals.{said_apart, when_went_on, when_refused}
 use Rattle.laying.specs.Laying.{laid_over}
-use Rattle.writer.specs.Parts.{Tested}
 use Rattle.writer.specs.Promises.{RefusedWritesNothing, WritingsApart}
-use Rattle.writer.specs.Writing.{written_of, buffer_of, writing_rules, said_written, Writes}
+use Rattle.writer.specs.Writing.{written_of, buffer_of, writing_rules, Writes}
 use Rattle.laying.proofs.Laws.{laid_next}
 
 -- ---- by the sheet alone
 
 module _ (n : Numbers) (es : List Entry) (b : List ℕ) where
-  pub not_good : good (sheet_for n es) ≡ false → Writes n es b (written.Refused 13) b
+  pub not_good : good (sheet_for n es) ≡ false → Writes n es b (Err refusal.SheetNotGood) b
   unfolding written_of buffer_of
   not_good g = record { answers = rw g; buffer = rw g }
 
-  pub too_short : good (sheet_for n es) ≡ true → length b < length (sheet_for n es) → Writes n es b (written.Refused 11) b
+  pub too_short : good (sheet_for n es) ≡ true → length b < length (sheet_for n es) → Writes n es b (Err refusal.BufferShort) b
   unfolding written_of buffer_of
   too_short g h = record { answers = rw (g, lt-ltb _ _ h); buffer = rw (g, lt-ltb _ _ h) }
 
-  pub written_whole : good (sheet_for n es) ≡ true → length (sheet_for n es) ≤ length b → Writes n es b (written.Sheet (length (sheet_for n es))) (sheet_for n es ++ drop (length (sheet_for n es)) b)
+  pub written_whole : good (sheet_for n es) ≡ true → length (sheet_for n es) ≤ length b → Writes n es b (Ok (length (sheet_for n es))) (sheet_for n es ++ drop (length (sheet_for n es)) b)
   unfolding written_of buffer_of
   written_whole g h = record { answers = rw (g, le-ltb _ _ h); buffer = rw (g, le-ltb _ _ h) }
 
@@ -57,70 +61,92 @@ not_true_is_false : (t : Bool) → (t ≡ true → ⊥) → t ≡ false
 not_true_is_false true h = absurd (h refl)
 not_true_is_false false h = refl
 
-module _ (n : Numbers) (es : List Entry) (b : List ℕ) (fit : NumbersFit n) (sixty_four : length es ≡ 64) where
-  abbrev part : List Entry
-  part = take n.entries es
+-- as many of the entries as the numbers say
+pub record FirstOf (n : Numbers) (es part : List Entry) : Type 0 where
+  pub are : part ≡ take n.entries es
+  pub count : length part ≡ n.entries
 
-  pub write_too_many : 64 < n.entries → Writes n es b (written.Refused 13) b
+pub first_of : (n : Numbers) (es part : List Entry) (k : ℕ) → k ≡ n.entries → part ≡ slice_range es 0 k → length part + 0 ≡ k → FirstOf n es part
+first_of n es part k is cut long =
+    let none : k - 0 ≡ k = omega arith in
+    record { are = cut ∙ rw (none, is); count = omega arith }
+
+-- what `write` knows of a test of its own: that it does not apply, or that it does
+abbrev went_on : Refusal → Bool → Type 0
+went_on refusal applies = Ok (tt {0}) ≡ refused_when refusal applies
+
+abbrev stopped : Refusal → Bool → Refusal → Type 0
+stopped refusal applies x = Err x ≡ refused_when refusal applies
+
+module _ (n : Numbers) (es : List Entry) (b : List ℕ) (fit : NumbersFit n) where
+  refuses : (applies : Bool) → (applies ≡ true → good (sheet_for n es) ≡ false) → (x : Refusal) → stopped refusal.SheetNotGood applies x → (r : Result ℕ Refusal) → r ≡ Err x → Writes n es b r b
+  refuses applies bad x test r is =
+      let found = when_refused refusal.SheetNotGood applies x test in
+      rw (is, found.1) (not_good n es b (bad found.0))
+
+  -- the numbers say more entries than are given
+  pub write_too_few : length es < n.entries → (x : Refusal) → x ≡ refusal.SheetNotGood → (r : Result ℕ Refusal) → r ≡ Err x → Writes n es b r b
   unfolding sheet_for
-  write_too_many h =
-      not_good n es b (sheet_bad part (trailer_for n) (trailer_fits n fit) (not_true_is_false _ (λ g.
-      let f = fair_trailer (trailer_for n) (6 * length part) g in
-      omega (arith, length-take n.entries es))))
+  write_too_few h x named r is =
+      rw (is, named)
+      (not_good n es b (sheet_bad (take n.entries es) (trailer_for n) (trailer_fits n fit) (not_true_is_false _ (λ g.
+      let f = fair_trailer (trailer_for n) (6 * length (take n.entries es)) g in
+      omega (arith, length-take n.entries es)))))
 
-  module _ (few : n.entries ≤ 64) where
-    count : length part ≡ n.entries
-    count = length-take-le n.entries es (omega arith)
-
-    size : length (sheet_for n es) ≡ 6 * n.entries + 12
+  module _ (part : List Entry) (first : FirstOf n es part) where
+    size : length (sheet_for n es) ≡ 6 * length part + 12
     unfolding sheet_for
-    size = sheet_length part (trailer_for n) ∙ ap (λ (k : ℕ). 6 * k + 12) count
+    size = ap (λ (l : List Entry). length (sheet_bytes l (trailer_for n))) (sym first.are) ∙ sheet_length part (trailer_for n)
 
-    module _ (t : Trailer) (is : t ≡ trailer_for n) (g : Bool) (test : g ≡ good_trailer t (6 * n.entries)) where
+    module _ (t : Trailer) (is : t ≡ trailer_for n) (g : Bool) (test : g ≡ good_trailer t (6 * length part)) where
       same_test : good_trailer (trailer_for n) (6 * length part) ≡ g
-      same_test = ap (λ (k : ℕ). good_trailer (trailer_for n) (6 * k)) count ∙ ap (λ (x : Trailer). good_trailer x (6 * n.entries)) (sym is) ∙ sym test
+      same_test = ap (λ (x : Trailer). good_trailer x (6 * length part)) (sym is) ∙ sym test
 
-      pub write_bad_trailer : not g ≡ true → Writes n es b (written.Refused 13) b
+      pub write_bad_trailer : (x : Refusal) → stopped refusal.SheetNotGood (not g) x → (r : Result ℕ Refusal) → r ≡ Err x → Writes n es b r b
       unfolding sheet_for
-      write_bad_trailer off = not_good n es b (sheet_bad part (trailer_for n) (trailer_fits n fit) (same_test ∙ not-true g off))
+      write_bad_trailer x off r e =
+          refuses (not g) (λ bad. ap (λ (l : List Entry). good (sheet_bytes l (trailer_for n))) (sym first.are) ∙ sheet_bad part (trailer_for n) (trailer_fits n fit) (same_test ∙ not-true g bad)) x off r e
 
-      module _ (on : not g ≡ false) (ok : Bool) (tested : Tested n.cells part ok) where
+      module _ (fair : went_on refusal.SheetNotGood (not g)) (ok : Bool) (clauses : ok ≡ good_entries n.cells (map (λ (e : Entry). e) part)) (days : DaysFit (map (λ (e : Entry). e) part)) where
         good_is_ok : good (sheet_for n es) ≡ ok
         unfolding sheet_for
         good_is_ok =
-            sheet_good part (trailer_for n) (trailer_fits n fit) tested.days (sym count) (same_test ∙ not-false g on)
-            ∙ sym tested.found
+            ap (λ (l : List Entry). good (sheet_bytes l (trailer_for n))) (sym first.are)
+            ∙ sheet_good part (trailer_for n) (trailer_fits n fit) (subst DaysFit (map-id part) days) (sym first.count)
+            (same_test ∙ not-false g (when_went_on refusal.SheetNotGood (not g) fair))
+            ∙ sym (clauses ∙ ap (good_entries n.cells) (map-id part))
 
-        pub write_bad_entries : not ok ≡ true → Writes n es b (written.Refused 13) b
-        write_bad_entries off = not_good n es b (good_is_ok ∙ not-true ok off)
+        pub write_bad_entries : (x : Refusal) → stopped refusal.SheetNotGood (not ok) x → (r : Result ℕ Refusal) → r ≡ Err x → Writes n es b r b
+        write_bad_entries x off r e = refuses (not ok) (λ bad. good_is_ok ∙ not-true ok bad) x off r e
 
-        module _ (fine : not ok ≡ false) where
-          pub write_too_short : length b < 6 * n.entries + 12 → Writes n es b (written.Refused 11) b
-          write_too_short h = too_short n es b (good_is_ok ∙ not-false ok fine) (omega (arith, size))
+        module _ (all : went_on refusal.SheetNotGood (not ok)) where
+          is_good : good (sheet_for n es) ≡ true
+          is_good = good_is_ok ∙ not-false ok (when_went_on refusal.SheetNotGood (not ok) all)
 
-          pub write_whole : 6 * n.entries + 12 ≤ length b
-              → (b₁ : List ℕ) → b₁ ≡ entries_bytes part ++ drop (6 * n.entries) b
-              → (b₂ : List ℕ) → b₂ ≡ laid_over b₁ (6 * n.entries) (trailer_bytes t)
-              → Writes n es b (written.Sheet (6 * n.entries + 12)) b₂
+          pub write_too_short : (x : Refusal) → stopped refusal.BufferShort (ltb (length b) (6 * length part + 12)) x → (r : Result ℕ Refusal) → r ≡ Err x → Writes n es b r b
+          write_too_short x short r e =
+              let found = when_refused refusal.BufferShort (ltb (length b) (6 * length part + 12)) x short in
+              rw (e, found.1) (too_short n es b is_good (omega (arith, size, ltb-true (length b) (6 * length part + 12) found.0)))
+
+          pub write_whole : went_on refusal.BufferShort (ltb (length b) (6 * length part + 12))
+              → (b₁ : List ℕ) → b₁ ≡ entries_bytes part ++ drop (6 * length part) b
+              → (b₂ : List ℕ) → b₂ ≡ laid_over b₁ (6 * length part) (trailer_bytes t)
+              → Writes n es b (Ok (6 * length part + 12)) b₂
           unfolding sheet_for
-          write_whole h b₁ e₁ b₂ e₂ =
+          write_whole room b₁ e₁ b₂ e₂ =
+              let h : 6 * length part + 12 ≤ length b = ltb-false (length b) (6 * length part + 12) (when_went_on refusal.BufferShort (ltb (length b) (6 * length part + 12)) room) in
               let front : List ℕ = entries_bytes part in
-              let at : length front ≡ 6 * n.entries = entries_length part ∙ ap (λ (k : ℕ). 6 * k) count in
+              let at : length front ≡ 6 * length part = entries_length part in
               let all : b₂ ≡ sheet_for n es ++ drop (length (sheet_for n es)) b =
-              e₂ ∙ ap (λ (l : List ℕ). laid_over l (6 * n.entries) (trailer_bytes t)) e₁
+              e₂ ∙ ap (λ (l : List ℕ). laid_over l (6 * length part) (trailer_bytes t)) e₁
               ∙ ap (λ (k : ℕ). laid_over (front ++ drop k b) k (trailer_bytes t)) (sym at)
               ∙ ap (λ (x : Trailer). laid_over (front ++ drop (length front) b) (length front) (trailer_bytes x)) is
               ∙ laid_next front (trailer_bytes (trailer_for n)) b (omega arith)
+              ∙ ap (λ (l : List Entry). sheet_bytes l (trailer_for n) ++ drop (length (sheet_bytes l (trailer_for n))) b) first.are
               in
-              rw (← size, all) (written_whole n es b (good_is_ok ∙ not-false ok fine) (omega (arith, size)))
-
-pub ruleset writings = (write_too_many, write_bad_trailer, write_bad_entries, write_too_short, write_whole)
+              rw (← size, all) (written_whole n es b is_good (omega (arith, size)))
 
 -- ---- the answer
 
-found : (a : Written) → again written.Refused written.Sheet (said_written a) ≡ a
-found (written.Sheet n) = refl
-found (written.Refused k) = refl
-
 pub said_written_tells_apart : WritingsApart
-said_written_tells_apart a b = apart said_written (again written.Refused written.Sheet) found
+said_written_tells_apart a b = said_apart (λ (n : ℕ). n) (λ (n : ℕ). n) (λ n. refl) a b
