@@ -11,7 +11,6 @@ use desk::{Answer, Desk, Outcome};
 use layout::{Entry, Numbers};
 use sound::Head;
 use told::{OrRefused, Told};
-use writer::Written;
 
 // " 01 02 FF"
 fn say_bytes(rt: &impl Print, bytes: &[u8]) {
@@ -84,15 +83,15 @@ fn sheets(rt: &impl Print) {
 }
 
 fn write_into(rt: &impl Print, buf: &mut [u8], numbers: Numbers, entry: Entry) {
-    match writer::write(buf, numbers, [entry; 64]) {
-        Written::Sheet(len) => {
+    match writer::write(buf, numbers, &[entry; 64]) {
+        Ok(len) => {
             if let Some(sheet) = buf.get(..len) {
                 say_bytes(rt, sheet);
                 read_back(rt, sheet);
             }
         }
-        Written::Refused(number) => {
-            let _ = println!(rt; " refused {number}");
+        Err(refusal) => {
+            let _ = println!(rt; " {refusal}");
         }
     }
 }

@@ -13,7 +13,6 @@ ghost use Rattle.std.specs.Prelude.{◌<◌, length};
 
 use content::Content;
 use layout::{Entry, Numbers};
-use writer::Written;
 
 // Each `put` function lays text into a line from `at` on, and answers where the line goes on. Text
 // past the line's room is left out: the longest line, with 64 entries, has less than 1,300 bytes.
@@ -113,14 +112,14 @@ fn is_first(room: &[u8], len: usize, s: &[u8]) -> bool {
 
 // Writes what was read into the room, and says whether the same bytes came out.
 fn put_again(line: &mut [u8], at: usize, room: &mut [u8], s: &[u8], n: Numbers) -> usize {
-    match writer::write(room, n, entries_again(s)) {
-        Written::Sheet(len) => {
+    match writer::write(room, n, &entries_again(s)) {
+        Ok(len) => {
             if is_first(room, len, s) {
                 return put(line, at, b" again");
             }
             put(line, at, b" OTHER")
         }
-        Written::Refused(number) => put_both(line, at, b" refused ", number as u64),
+        Err(r) => put_both(line, at, b" refused ", r.number() as u64),
     }
 }
 
