@@ -5,16 +5,27 @@
 // input.
 #![tactic(auto)]
 
-ghost use Rattle.std.specs.Prelude.{◌≡◌, length};
+ghost use Rattle.std.specs.Prelude.{◌≡◌, length, MatchOption};
 ghost use Rattle.laying.specs.Laying.{laid_over};
-ghost use Rattle.play.specs.Rounds.{too_long, printed, Prints};
-ghost use Rattle.play.specs.Parts.Running.{mode_in_force, ShelfPlays, shelf_text};
+ghost use Rattle.schedule.specs.Lines.{lines_of};
+ghost use Rattle.play.specs.Rounds.{too_long, bad_start, lines_text, printed, Prints};
+ghost use Rattle.play.specs.Parts.Running.{said_shelf, mode_in_force, Starts};
 
 use desk::Desk;
 use schedule::Shelf;
 
+mod first;
 mod making;
 mod running;
+
+// What line 1 says, where it is a start: the shelf, whose desks can be opened, and the mode in force;
+// and the lines behind it.
+#[derive(Clone, Copy)]
+struct Opening<'a> {
+    shelf: Shelf,
+    mode: u8,
+    steps: &'a [u8],
+}
 
 // "16,384 bytes and 1,000 steps (lines after the first) at most".
 fn too_long(input: &[u8]) -> bool
@@ -25,40 +36,33 @@ fn too_long(input: &[u8]) -> bool
 }
 
 // A line that is printed alone.
-fn put_alone(out: &mut [u8], line: &[u8]) -> usize
+fn put_alone(out: &mut [u8], line: &str) -> usize
     ensures out_after { out.new ≡ laid_over out.old 0 line.now }
     ensures value { result ≡ length line.now }
 {
-    laying::put(out, 0, line);
+    laying::put(out, 0, line.as_bytes());
     line.len()
 }
 
-// The mode in force, that of a desk opened so; 0 where a desk can't be opened: "A refused open gives a
-// record of zeros."
-fn mode_in_force(n: u32, m: u32, mode: u32) -> u8
-    ensures { result ≡ mode_in_force (record { n = n; m = m; mode = mode }) }
+// The mode in force, that of a desk opened so; nothing, where a desk can't be opened.
+fn mode_in_force(shelf: Shelf) -> Option<u8>
+    ensures { result ≡ mode_in_force (said_shelf shelf) }
 {
-    let o = Desk::open(n, m, 0, mode);
-    let d = o.desk;
-    let h = d.head;
-    h.mode
+    let o = Desk::open(shelf.n, shelf.m, 0, shelf.mode);
+    match o.answer {
+        Ok(_) => Some(o.desk.head.mode),
+        Err(_) => None,
+    }
 }
 
-// A shelf whose desks can be opened: the header, and the steps from `from` on.
-fn play_shelf(
-    input: &[u8],
-    from: usize,
-    n: u32,
-    m: u32,
-    mode: u32,
-    force: u8,
-    out: &mut [u8],
-) -> usize
-    requires { ShelfPlays input.now from (record { n = n; m = m; mode = mode }) force out.old }
-    ensures { Prints (shelf_text input.now from (record { n = n; m = m; mode = mode })) out.old out.new result }
+// "if it has another form or a desk can't be opened, `bad start` alone"
+fn started(input: &[u8]) -> Option<Opening<'_>>
+    ensures { MatchOption result (lines_text (lines_of input.now) ≡ bad_start) (λ s. Starts input.now (said_shelf s.shelf) s.mode s.steps.now) }
 {
-    let at = printing::put_header(out, 0, n, m, force);
-    running::run(input, from, n, m, mode, out, at)
+    let (line, steps) = first::line_in(input)?;
+    let shelf = schedule::start_in(line)?;
+    let mode = mode_in_force(shelf)?;
+    Some(Opening { shelf, mode, steps })
 }
 
 // Plays the schedule, and prints from the buffer's front on; answers how many bytes that are. The
@@ -67,20 +71,11 @@ pub fn play(input: &[u8], out: &mut [u8; 64064]) -> usize
     ensures { Prints (printed input.now) out.old out.new result }
 {
     if too_long(input) {
-        return put_alone(out, b"too long\n");
+        return put_alone(out, "too long\n");
     }
-    let end = text::part_end(input, 0, b'\n');
-    if input.len() <= end {
-        return put_alone(out, b"bad start\n");
-    }
-    match schedule::start_in(&input[..end]) {
-        None => put_alone(out, b"bad start\n"),
-        Some(Shelf { n, m, mode }) => {
-            let force = mode_in_force(n, m, mode);
-            if force == 0 {
-                return put_alone(out, b"bad start\n");
-            }
-            play_shelf(input, end + 1, n, m, mode, force, out)
-        }
-    }
+    let Some(Opening { shelf, mode, steps }) = started(input) else {
+        return put_alone(out, "bad start\n");
+    };
+    let at = printing::put_header(out, 0, shelf.n, shelf.m, mode);
+    running::run(steps, shelf, out, at)
 }

@@ -16,35 +16,30 @@ pub(crate) struct StepOutcome {
 }
 
 // That of a call.
-fn of_call(o: Outcome) -> StepOutcome
-    ensures { result ≡ of_outcome o }
-{
-    StepOutcome {
-        answer: StepAnswer::OfCall(o.answer),
-        desk: o.desk,
+impl From<Outcome> for StepOutcome {
+    ghost from_gives = { λ o s. s ≡ of_outcome o };
+
+    fn from(o: Outcome) -> StepOutcome {
+        StepOutcome {
+            answer: StepAnswer::OfCall(o.answer),
+            desk: o.desk,
+        }
     }
 }
 
-// "`s` lends 396 bytes."
-fn sheet_room() -> [u8; 396]
-    ensures { result ≡ sheet_room }
-{
-    [0u8; 396]
-}
-
-// A send. The sheet, if one is sent, becomes the latest of desk p: its entries have 6 bytes each, and
-// its trailer 12.
+// A send; "`s` lends 396 bytes". The sheet, if one is sent, becomes the latest of desk p: its entries
+// have 6 bytes each, and its trailer 12.
 fn send(d: Desk, p: u8, latest: &mut [u8]) -> StepOutcome
     ensures { step_outcome result [] latest.new ≡ step_by_send p (send_of d sheet_room) [] latest.old }
 {
-    let mut sheet = sheet_room();
+    let mut sheet = [0; 396];
     let o = d.send(&mut sheet);
     let Ok(Answer::Sent { turn: _, entries }) = o.answer else {
-        return of_call(o);
+        return o.into();
     };
-    let len = 6 * (entries as usize) + 12;
+    let len = 6 * entries as usize + 12;
     tray::hold(latest, p, &sheet[..len]);
-    of_call(o)
+    o.into()
 }
 
 // "sender's latest sheet, again if wanted"; no call, if there is none.
@@ -59,8 +54,8 @@ fn deliver(d: Desk, q: u8, tray: &mut [u8], latest: &[u8]) -> StepOutcome
             desk: d,
         };
     }
-    let from = 398 * (q as usize) + 2;
-    of_call(d.deliver(tray, &latest[from..from + len]))
+    let from = 398 * q as usize + 2;
+    d.deliver(tray, &latest[from..from + len]).into()
 }
 
 // The step of desk p that this act is.
@@ -71,10 +66,10 @@ pub(crate) fn make(d: Desk, p: u32, act: Act, tray: &mut [u8], latest: &mut [u8]
     ensures { step_outcome result tray.new latest.new ≡ make_of d p act tray.old latest.old }
 {
     match act {
-        Act::Write { cell, content } => of_call(d.write(cell, content)),
-        Act::Read { cell } => of_call(d.read(cell)),
+        Act::Write { cell, content } => d.write(cell, content).into(),
+        Act::Read { cell } => d.read(cell).into(),
         Act::Send => send(d, p as u8, latest),
         Act::Deliver { sender } => deliver(d, sender as u8, tray, latest),
-        Act::Take => of_call(d.take(tray)),
+        Act::Take => d.take(tray).into(),
     }
 }

@@ -5,7 +5,7 @@
 use Prim.Native.Nat.{ℕ, ◌+◌, ◌*◌, ◌-◌, ◌≤◌}
 use mathlib.Core.Path.{◌≡◌, refl, sym, ap, ◌∙◌, subst}
 use mathlib.Core.Bool.{Bool, true, false, cond}
-use mathlib.Core.List.{List, [], ◌∷◌, ◌++◌}
+use mathlib.Core.List.{List, [], ◌++◌}
 use native.Mathlib.Omega.{arith}
 use lib.ListN.{length, take, drop, replicate, length-append}
 use lib.Seq.{length-take-le}
@@ -15,7 +15,7 @@ use mir.Val.{Fits}
 use borrow.Author.Tests.{eq-eqb, ne_eqb}
 use Rattle.answer.specs.Answer.{Answer, answered}
 use Rattle.content.specs.declared.Content.{Content}
-use Rattle.tray.specs.Tray.{free, sheet_at, length_at, held_in}
+use Rattle.tray.specs.Tray.{free, sheet_at, length_at}
 use Rattle.pending.specs.Pending.{pending_entries, sheet_of}
 use Rattle.pending.proofs.Laws.Sending.{sheet_long}
 use Rattle.desk.specs.declared.Desk.{Desk}
@@ -24,14 +24,13 @@ use Rattle.desk.specs.declared.Answer as declared
 use Rattle.desk.specs.declared.Answer.TheVariants as cases
 use Rattle.desk.specs.Answers.{Value, sent, Done, said_answer, outcome}
 use Rattle.desk.specs.Calls.{write_of, read_of, send_rules, sent_desk, send_of, deliver_of, take_of}
-use Rattle.runs.specs.Run.{SentSheet, sheet_left}
 use Rattle.runs.proofs.Laws.Steps.{by_call}
 use Rattle.schedule.specs.declared.Act.{Act}
 use Rattle.schedule.specs.declared.Act.TheVariants as act
 use Rattle.printing.specs.declared.StepAnswer.TheVariants as step
 use Rattle.play.specs.declared.making.StepOutcome.{StepOutcome}
 use Rattle.play.specs.Steps.{sheet_room}
-use Rattle.play.specs.Parts.Making.{StepDone, step_outcome, of_outcome, step_by_call, step_by_tray, latest_with, step_by_send, nothing_done, delivered, make_of, LatestFit, LatestFits, SenderThere}
+use Rattle.play.specs.Parts.Making.{StepDone, step_outcome, of_outcome, step_by_call, step_by_tray, step_by_send, nothing_done, delivered, make_of, LatestFit, LatestFits, SenderThere}
 
 pub room_is : replicate 396 0 ≡ sheet_room
 unfolding sheet_room
@@ -69,7 +68,7 @@ module _ (d : Desk) (room : List ℕ) (blank : room ≡ sheet_room) (o : Outcome
     pub sent_part : 6 * entries + 12 ≡ length (take (6 * entries + 12) lent)
     sent_part = sym (length-take-le (6 * entries + 12) lent sent_room)
 
-pub ruleset sends = (sent_room, sent_part)
+pub ruleset sends = (room_is, sent_room, sent_part)
 
 -- ---- deliver
 

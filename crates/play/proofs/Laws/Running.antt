@@ -1,31 +1,26 @@
--- What the functions of src/lib.rt and src/running.rt know at each return, but for `run` and `play`.
---   long_is, mode_by_head                 the test on the input's length, and the mode of an opened desk
---   OpenedSoFar, openings                 the loop that opens the desks, and its laws as a set for `search`
---   steps_at                              a set for `search`: `step_at`
+-- What the functions of src/lib.rt and src/running.rt know at each return, but for `run`, `started` and `play`.
+--   long_is, mode_opened, mode_refused    the test on the input's length, and the mode of an opened desk
+--   OpenedSoFar                           the loop that opens the desks
 -- Assumes nothing.
-use Prim.Native.Nat.{ℕ, ◌+◌, ◌-◌, ◌<◌, ◌≤◌}
-use Rattle.std.proofs.Common as std
+use Prim.Native.Nat.{ℕ, ◌<◌}
+use Rattle.std.specs.Prelude.{Some, None, Result, Ok, Err}
 use mathlib.Core.Path.{◌≡◌, refl, sym, ap, ◌∙◌}
-use mathlib.Core.Bool.{Bool, cond, ◌||◌}
+use mathlib.Core.Bool.{Bool, true, false, cond, ◌||◌, false≢true}
 use mathlib.Core.List.{List, []}
-use mathlib.Core.Option.{none}
-use native.Mathlib.Omega.{arith}
-use native.Mathlib.Decide.{ℕ_discrete}
 use lib.Dec.{ltb}
-use lib.ListN.{length, get_or, set, take, drop, replicate, length-set, length-replicate}
-use lib.Seq.{get_or-set_same, get_or-set_other}
-use borrow.Author.Tests.{le-ltb, lt-ltb}
+use lib.ListN.{length, get_or, replicate}
+use Rattle.answer.specs.Answer.{accepted}
+use Rattle.answer.specs.declared.Refusal.{Refusal}
+use Rattle.desk.specs.declared.Answer.{Answer}
 use Rattle.desk.specs.declared.Desk.{Desk}
 use Rattle.desk.specs.declared.Outcome.{Outcome}
-use Rattle.desk.specs.Answers.{opened, Done, outcome}
+use Rattle.desk.specs.Answers.{opened, Done, said_answer, outcome}
 use Rattle.desk.specs.Calls.{open_rules, mode_for, blank_desk, fresh_head, open_of}
 use Rattle.runs.proofs.Laws.Steps.{by_call}
-use Rattle.schedule.specs.declared.Step as declared
-use Rattle.schedule.specs.Lines.{ended, lines_of}
-use Rattle.schedule.specs.Step.{step_in, said_step}
-use Rattle.answer.specs.Answer.{accepted}
+use Rattle.schedule.specs.Lines.{lines_of}
+use Rattle.schedule.specs.Start.{Start}
 use Rattle.play.specs.Rounds.{too_long}
-use Rattle.play.specs.Parts.Running.{no_desk, AllOpened, clear_trays, no_sheets, step_at, mode_in_force}
+use Rattle.play.specs.Parts.Running.{no_desk, clear_trays, no_sheets, mode_in_force}
 
 -- ---- the input's length
 
@@ -33,61 +28,38 @@ pub long_is : (input : List ℕ) (lines : ℕ) → lines ≡ length (lines_of in
 unfolding too_long
 long_is input lines e = ap (λ (k : ℕ). ltb 16384 (length input) || ltb 1001 k) e
 
+-- ---- the mode
+
+module _ (x : Start) (o : Outcome) (is : outcome o [] ≡ open_of x.n x.m 0 x.mode) where
+  head_mode : accepted (said_answer o.answer) ≡ true → o.desk.head.mode ≡ mode_for x.mode
+  unfolding open_of
+  head_mode on =
+      ap (λ (y : Done). y.desk.head.mode) is
+      ∙ by_call (λ (y : Done). accepted y.answer ≡ true → y.desk.head.mode ≡ mode_for x.mode) (open_rules x.n x.m 0 x.mode) (blank_desk (fresh_head 0 0 0 0)) [] opened
+      (blank_desk (fresh_head x.n x.m 0 (mode_for x.mode)))
+      []
+      (λ k first e. absurd (false≢true e))
+      (λ silent e. refl)
+      (sym (ap (λ (y : Done). accepted y.answer) is) ∙ on)
+
+  pub mode_opened : (a : Answer) → o.answer ≡ Ok a → Some o.desk.head.mode ≡ mode_in_force x
+  mode_opened a e =
+      let on : accepted (said_answer o.answer) ≡ true = ap (λ (r : Result Answer Refusal). accepted (said_answer r)) e in
+      ap (λ (k : ℕ). Some k) (head_mode on)
+      ∙ ap (λ (b : Bool). cond b (Some (mode_for x.mode)) None) (sym on ∙ ap (λ (y : Done). accepted y.answer) is)
+
+  pub mode_refused : (r : Refusal) → o.answer ≡ Err r → None ≡ mode_in_force x
+  mode_refused r e =
+      let off : accepted (said_answer o.answer) ≡ false = ap (λ (r : Result Answer Refusal). accepted (said_answer r)) e in
+      ap (λ (b : Bool). cond b (Some (mode_for x.mode)) None) (sym off ∙ ap (λ (y : Done). accepted y.answer) is)
+
+pub ruleset modes = (mode_opened, mode_refused)
+
 -- ---- the desks
 
--- "A refused open gives a record of zeros."
-pub mode_by_head : (n m mode : ℕ) (o : Outcome) → outcome o [] ≡ open_of n m 0 mode → o.desk.head.mode ≡ mode_in_force (record { n = n; m = m; mode = mode })
-unfolding open_of
-mode_by_head n m mode o is =
-    ap (λ (x : Done). x.desk.head.mode) is
-    ∙ by_call (λ (x : Done). x.desk.head.mode ≡ cond (accepted x.answer) (mode_for mode) 0) (open_rules n m 0 mode) (blank_desk (fresh_head 0 0 0 0)) [] opened
-    (blank_desk (fresh_head n m 0 (mode_for mode)))
-    []
-    (λ k first. refl)
-    (λ silent. refl)
-
-pub record OpenedSoFar (n m mode : ℕ) (ds : List Desk) (p : ℕ) : Type 0 where
-  pub most : p ≤ 16
+pub record OpenedSoFar (x : Start) (ds : List Desk) (p : ℕ) : Type 0 where
   pub long : length ds ≡ 16
-  pub each : (q : ℕ) → q < p → get_or ds q no_desk ≡ (open_of n m q mode).desk
-
-module _ (n m mode : ℕ) where
-  pub open_begun : (o : Outcome) → outcome o [] ≡ open_of n m 0 mode → OpenedSoFar n m mode (replicate 16 o.desk) 1
-  open_begun o is =
-      record {
-        most = omega arith;
-        long = length-replicate 16 o.desk;
-        each = λ q l. let first : q ≡ 0 = omega arith in rw first (ap (λ (x : Done). x.desk) is);
-      }
-
-  module _ (ds : List Desk) (p : ℕ) (so : OpenedSoFar n m mode ds p) where
-    pub open_turned : p < 16 → (o : Outcome) → outcome o [] ≡ open_of n m p mode → OpenedSoFar n m mode (set ds p o.desk) (p + 1)
-    open_turned l o is =
-        record {
-          most = omega arith;
-          long = length-set ds p o.desk ∙ so.long;
-          each = λ q m. by_desk q m (ℕ_discrete q p);
-        }
-      where
-        by_desk : (q : ℕ) → q < p + 1 → Dec (q ≡ p) → get_or (set ds p o.desk) q no_desk ≡ (open_of n m q mode).desk
-        by_desk q k (yes e) = rw e (get_or-set_same ds p o.desk no_desk (omega (arith, so.long)) ∙ ap (λ (x : Done). x.desk) is)
-        by_desk q k (no e) = get_or-set_other ds p q o.desk no_desk e ∙ so.each q (omega arith)
-
-    pub all_opened : 16 ≤ p → AllOpened n m mode ds
-    all_opened h = record { long = so.long; each = λ q l. so.each q (omega (arith, so.most)) }
-
-pub ruleset openings = (open_begun, open_turned, all_opened)
-
--- ---- a line
-
-module _ (n : ℕ) (input : List ℕ) (from end : ℕ) where
-  pub step_cut : length input ≤ end → none ≡ step_at n input from end
-  step_cut h = sym (ap (λ (t : Bool). cond t (step_in n (ended (take (end - from) (drop from input)))) none) (le-ltb end (length input) h))
-
-  pub step_ended : end < length input → (s : std.Option declared.Step) → said_step s ≡ step_in n (ended (take (end - from) (drop from input))) → said_step s ≡ step_at n input from end
-  step_ended h s is = is ∙ sym (ap (λ (t : Bool). cond t (step_in n (ended (take (end - from) (drop from input)))) none) (lt-ltb end (length input) h))
-
-pub ruleset steps_at = (step_cut, step_ended)
+  pub each : (q : ℕ) → q < p → get_or ds q no_desk ≡ (open_of x.n x.m q x.mode).desk
 
 -- ---- the bytes that a run is lent
 

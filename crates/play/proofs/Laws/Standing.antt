@@ -22,11 +22,13 @@ use Rattle.desk.specs.Calls.{document01, write_of, read_of, send_of, deliver_of,
 use Rattle.keeping.proofs.Laws.Deliver.{deliver_long}
 use Rattle.keeping.proofs.Laws.Take.{take_long}
 use Rattle.runs.specs.Call as calls
-use Rattle.runs.specs.Run.{Shelf, SentSheet, State, sheet_no, start, made, put, after}
+use Rattle.runs.specs.Run.{SentSheet, State, sheet_no, start, made, put, after}
 use Rattle.runs.proofs.Laws.Steps.{put_same, put_other, put_own}
 use Rattle.schedule.specs.declared.Act.{Act}
 use Rattle.schedule.specs.declared.Act.TheVariants as act
+use Rattle.schedule.specs.Start.{Start}
 use Rattle.schedule.specs.Step.{Step, said_act}
+use Rattle.play.specs.Rounds.{shelf_of}
 use Rattle.play.specs.Steps.{sheet_room, latest_from, latest_of, delivers_latest, call_answer, after_call, step_answer, after_step}
 use Rattle.play.specs.Parts.Making.{StepDone, step_by_tray, nothing_done, make_of, SenderThere}
 use Rattle.play.specs.Parts.Running.{no_desk, AllOpened}
@@ -166,18 +168,14 @@ nothing_kept n k size few =
       each = λ q m. none_yet (eq-eqb (length_at (replicate k 0) q) 0 (zero_length k q));
     }
 
-module _ (n m mode : ℕ) (few : n ≤ 16) where
-  abbrev shelf : Shelf
-  shelf = record { n = n; m = m; mode = λ p. mode }
-
-  pub stands_at_start : (ds : List Desk) → AllOpened n m mode ds
-      → (k j : ℕ) → k ≡ 101888 → j ≡ 6368 → Stands n (start document01 shelf) ds (replicate k 0) (replicate j 0)
-  unfolding start
-  stands_at_start ds opened k j trays places =
-      record {
-        desks_long = opened.long;
-        trays_long = length-replicate {A = ℕ} k 0 ∙ trays;
-        desk_is = λ p l. opened.each p (omega arith);
-        tray_is = λ p l. tray_zeros (398 * n) p k (omega (arith, tray_room n p few l));
-        kept = nothing_kept n j places few;
-      }
+pub stands_at_start : (x : Start) → x.n ≤ 16 → (ds : List Desk) → AllOpened x ds
+    → (k j : ℕ) → k ≡ 101888 → j ≡ 6368 → Stands x.n (start document01 (shelf_of x)) ds (replicate k 0) (replicate j 0)
+unfolding start
+stands_at_start x few ds opened k j trays places =
+    record {
+      desks_long = opened.long;
+      trays_long = length-replicate {A = ℕ} k 0 ∙ trays;
+      desk_is = λ p l. opened.each p (omega arith);
+      tray_is = λ p l. tray_zeros (398 * x.n) p k (omega (arith, tray_room x.n p few l));
+      kept = nothing_kept x.n j places few;
+    }

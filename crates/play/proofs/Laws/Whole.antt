@@ -1,20 +1,16 @@
--- What `play_shelf` and `play` know at each return (src/lib.rt), and that it is what `printed` says (specs/Rounds.antt).
+-- What `started` and `play` know at each return (src/lib.rt), and that it is what `printed` says (specs/Rounds.antt).
 --   opens_says                        a desk that can be opened: its numbers
---   can_run, shelf_played             `play_shelf`
---   plays                             a set for `search`: `play`
+--   starting, plays                   sets for `search`: `started`, `play`
 -- Assumes nothing.
-use Prim.Native.Nat.{ℕ, ◌+◌, ◌-◌, ◌<◌, ◌≤◌}
+use Prim.Native.Nat.{ℕ, ◌+◌, ◌≤◌}
 use Rattle.std.proofs.Common as std
 use Rattle.std.proofs.Common.{None, Some}
 use mathlib.Core.Path.{◌≡◌, refl, sym, ap, ◌∙◌, subst}
 use mathlib.Core.Bool.{Bool, true, false, cond, false≢true}
 use mathlib.Core.List.{List, [], ◌∷◌, ◌++◌}
-use mathlib.Core.Option.{Option}
+use mathlib.Core.Option.{Option, none, some}
 use native.Mathlib.Omega.{arith}
-use lib.Dec.{eqb}
-use lib.ListN.{length, take, drop, length-append}
-use lib.Seq.{length-take-le}
-use borrow.Author.Tests.{eq-eqb}
+use lib.ListN.{length, length-append}
 use Rattle.laying.specs.Laying.{laid_over}
 use Rattle.laying.proofs.Laws.{laid_behind}
 use Rattle.tray.proofs.Laws.Parts.{laid_long}
@@ -23,18 +19,30 @@ use Rattle.desk.specs.Calls.{mode_for, open_rules, blank_desk, fresh_head, open_
 use Rattle.desk.proofs.Laws.Allowed.{OpenAllowed, open_allows}
 use Rattle.runs.proofs.Laws.Steps.{by_call}
 use Rattle.text.specs.Text.{text}
-use Rattle.text.specs.Separated.{first_part, line_feed}
-use Rattle.schedule.specs.Lines.{Line, ended, lines_of}
+use Rattle.schedule.specs.Lines.{Line, ended, last_line, lines_of}
 use Rattle.schedule.specs.Start.{Start, start_in, said_start}
 use Rattle.schedule.specs.declared.Shelf as declared
-use Rattle.schedule.proofs.Laws.Lines.{no_lines}
 use Rattle.printing.specs.Printing.{wrote, header_text}
 use Rattle.answer.specs.Answer.{accepted}
 use Rattle.numbers.proofs.Tests.{tested}
+use Rattle.play.specs.Parts.Lines.{NoneEnded, FirstLine}
 use Rattle.play.specs.Rounds.{too_long, opens, bad_start, run_text, lines_text, printed, Prints}
-use Rattle.play.specs.Parts.Running.{Runs, run_of, Ran, mode_in_force, ShelfPlays, shelf_text}
-use Rattle.play.proofs.Laws.Lines.{ended_here, cut_here}
+use Rattle.play.specs.Parts.Running.{said_shelf, Runs, run_of, Ran, mode_in_force, Starts, shelf_text}
 use Rattle.play.proofs.Laws.Playing.{line_laid, line_end}
+
+some_none : {A : Type 0} {x : A} → ◌≡◌ {A = std.Option A} (Some x) None → ⊥
+some_none {A} e = subst is_some e tt
+  where
+    is_some : std.Option A → Type 0
+    is_some None = ⊥
+    is_some (Some y) = Unit {0}
+
+some_same : {x y : ℕ} → ◌≡◌ {A = std.Option ℕ} (Some x) (Some y) → x ≡ y
+some_same {x} e = ap value e
+  where
+    value : std.Option ℕ → ℕ
+    value None = x
+    value (Some y) = y
 
 -- ---- a shelf whose desks can be opened
 
@@ -47,80 +55,52 @@ opens_says n m mode =
     (λ k first e. absurd (false≢true e))
     (λ silent e. open_allows n m 0 mode silent)
 
--- the mode in force is 0 exactly if a desk can't be opened
-record InForce (x : Start) : Type 0 where
-  can_open : opens x ≡ true
-  mode_is : mode_in_force x ≡ mode_for x.mode
+-- ---- line 1
 
-no_mode : (mode : ℕ) → mode_for mode ≡ 0 → ⊥
-no_mode mode e = by_test (eqb mode 0) refl
-  where
-    by_test : (b : Bool) → eqb mode 0 ≡ b → ⊥
-    by_test true t = let two : ◌≡◌ {A = ℕ} 2 0 = sym (ap (λ (c : Bool). cond c 2 mode) t) ∙ e in omega arith
-    by_test false t = let same : mode ≡ 0 = sym (ap (λ (c : Bool). cond c 2 mode) t) ∙ e in false≢true (sym t ∙ eq-eqb mode 0 same)
+module _ (input : List ℕ) where
+  by_first : (line rest : List ℕ) → FirstLine input line rest → (o : Option Start) → start_in (ended line) ≡ o → lines_text (lines_of input) ≡ run_text o (lines_of rest)
+  by_first line rest first o says = ap lines_text first.lines ∙ ap (λ (z : Option Start). run_text z (lines_of rest)) says
 
-none_opens : (x : Start) → mode_in_force x ≡ 0 → opens x ≡ false
-none_opens x e = by_test (opens x) refl
-  where
-    by_test : (b : Bool) → opens x ≡ b → opens x ≡ false
-    by_test true t = absurd (no_mode x.mode (sym (ap (λ (c : Bool). cond c (mode_for x.mode) 0) t) ∙ e))
-    by_test false t = t
+  pub start_cut : NoneEnded input → lines_text (lines_of input) ≡ bad_start
+  unfolding start_in
+  start_cut e = ap lines_text e ∙ by_bytes input
+    where
+      by_bytes : (l : List ℕ) → lines_text (last_line l) ≡ bad_start
+      by_bytes [] = refl
+      by_bytes (b ∷ bs) = refl
 
-all_open : (x : Start) → (mode_in_force x ≡ 0 → ⊥) → InForce x
-all_open x some_mode = by_test (opens x) refl
-  where
-    by_test : (b : Bool) → opens x ≡ b → InForce x
-    by_test true t = record { can_open = t; mode_is = ap (λ (c : Bool). cond c (mode_for x.mode) 0) t }
-    by_test false t = absurd (some_mode (ap (λ (c : Bool). cond c (mode_for x.mode) 0) t))
+  module _ (line rest : List ℕ) (first : FirstLine input line rest) (s : std.Option declared.Shelf) (says : said_start s ≡ start_in (ended line)) where
+    pub start_bad : s ≡ None → lines_text (lines_of input) ≡ bad_start
+    start_bad e = by_first line rest first none (sym says ∙ ap said_start e)
 
-module _ (input : List ℕ) (from n m mode force : ℕ) (out : List ℕ) (asked : ShelfPlays input from (record { n = n; m = m; mode = mode }) force out) where
-  module _ (out₁ : List ℕ) (at : ℕ) (put : record { bytes = out₁; end = at } ≡ wrote out 0 (header_text n m force)) (near : at ≤ 0 + 64) where
-    room : 0 + 64 ≤ length out
-    room = omega (arith, asked.long)
+    module _ (shelf : declared.Shelf) (is : s ≡ Some shelf) where
+      by_opening : (b : Bool) → opens (said_shelf shelf) ≡ b → lines_text (lines_of input) ≡ cond b (shelf_text rest (said_shelf shelf)) bad_start
+      by_opening b e =
+          by_first line rest first (some (said_shelf shelf)) (sym says ∙ ap said_start is)
+          ∙ ap (λ (t : Bool). cond t (shelf_text rest (said_shelf shelf)) bad_start) e
 
-    header_laid : out₁ ≡ laid_over out 0 (header_text n m force)
-    header_laid = line_laid out 0 (header_text n m force) out₁ at put room
+      module _ (force : std.Option ℕ) (force_is : force ≡ mode_in_force (said_shelf shelf)) where
+        pub start_shut : force ≡ None → lines_text (lines_of input) ≡ bad_start
+        start_shut e = by_test (opens (said_shelf shelf)) refl
+          where
+            by_test : (b : Bool) → opens (said_shelf shelf) ≡ b → lines_text (lines_of input) ≡ bad_start
+            by_test true t = absurd (some_none (sym (ap (λ (c : Bool). cond c (Some (mode_for shelf.mode)) None) t) ∙ sym force_is ∙ e))
+            by_test false t = by_opening false t
 
-    header_end : at ≡ 0 + length (header_text n m force)
-    header_end = line_end out 0 (header_text n m force) out₁ at put room
+        pub starts : (mode : ℕ) → force ≡ Some mode → Starts input (said_shelf shelf) mode rest
+        starts mode e = by_test (opens (said_shelf shelf)) refl
+          where
+            by_test : (b : Bool) → opens (said_shelf shelf) ≡ b → Starts input (said_shelf shelf) mode rest
+            by_test true t =
+                record {
+                  can_open = t;
+                  in_force = some_same (sym e ∙ force_is ∙ ap (λ (c : Bool). cond c (Some (mode_for shelf.mode)) None) t);
+                  text = by_opening true t;
+                  lines = ap (λ (ls : List Line). length ls) first.lines;
+                }
+            by_test false t = absurd (some_none (sym e ∙ force_is ∙ ap (λ (c : Bool). cond c (Some (mode_for shelf.mode)) None) t))
 
-    pub can_run : Runs input from n out₁ at
-    can_run =
-        let allowed = opens_says n m mode asked.can_open in
-        record {
-          some_desks = allowed.desks_least;
-          few_desks = allowed.desks_most;
-          few_bytes = asked.few_bytes;
-          within_input = asked.within_input;
-          few_lines = asked.few_lines;
-          room = omega (arith, near, asked.few_lines, asked.long, ap (λ (l : List ℕ). length l) header_laid ∙ laid_long out 0 (header_text n m force));
-        }
-
-    module _ (out₂ : List ℕ) (r : ℕ) (ran : Ran (run_of input from n m mode) out₁ at out₂ r) where
-      abbrev header : List ℕ
-      header = header_text n m force
-
-      abbrev steps : List ℕ
-      steps = run_of input from n m mode
-
-      in_room : r ≤ 64064
-      in_room = omega (arith, ran.room, asked.long, ap (λ (l : List ℕ). length l) header_laid ∙ laid_long out 0 header)
-
-      r_is : r ≡ length (header ++ steps)
-      r_is = omega (arith, ran.ends, header_end, length-append header steps)
-
-      pub shelf_played : Prints (shelf_text input from (record { n = n; m = m; mode = mode })) out out₂ r
-      shelf_played =
-          record {
-            bytes =
-                ran.bytes
-                ∙ ap (λ (l : List ℕ). laid_over l at steps) header_laid
-                ∙ ap (λ (z : ℕ). laid_over (laid_over out 0 header) z steps) header_end
-                ∙ laid_behind out 0 header steps (omega (arith, header_end, ran.ends, in_room, asked.long))
-                ∙ ap (λ (f : ℕ). laid_over out 0 (header_text n m f ++ steps)) asked.in_force;
-            long = r_is ∙ ap (λ (f : ℕ). length (header_text n m f ++ steps)) asked.in_force;
-            room = omega (arith, in_room, asked.long, ap (λ (l : List ℕ). length l) (ran.bytes ∙ ap (λ (l : List ℕ). laid_over l at steps) header_laid) ∙ laid_long (laid_over out 0 header) at steps ∙ laid_long out 0 header);
-          }
+pub ruleset starting = (start_cut, start_bad, start_shut, starts)
 
 -- ---- the whole
 
@@ -142,69 +122,51 @@ module _ (input out : List ℕ) (long : length out ≡ 64064) where
       unfolding printed
       by_lines = ap (λ (b : Bool). cond b (text "too long\n") (lines_text (lines_of input))) (sym test_is ∙ off)
 
-      bad_start_lem : printed input ≡ bad_start → (out' : List ℕ) → out' ≡ laid_over out 0 (text "bad start\n") → (r : ℕ) → r ≡ length (text "bad start\n") → Prints (printed input) out out' r
-      bad_start_lem e out' is r size = by_text bad_start e out' r (alone (omega arith) out' is r size)
-
-      few_bytes : length input ≤ 16384
-      unfolding too_long
-      few_bytes = search (sym test_is ∙ off, tested)
-
       few_lines : length (lines_of input) ≤ 1001
       unfolding too_long
       few_lines = search (sym test_is ∙ off, tested)
 
-      module _ (end : ℕ) (ends : end ≡ 0 + length (first_part line_feed (drop 0 input))) where
-        pub played_cut : length input ≤ end → (out' : List ℕ) → out' ≡ laid_over out 0 (text "bad start\n") → (r : ℕ) → r ≡ length (text "bad start\n") → Prints (printed input) out out' r
-        unfolding start_in
-        played_cut h = bad_start_lem (by_lines ∙ no_start input refl)
-          where
-            no_start : (l : List ℕ) → input ≡ l → lines_text (lines_of input) ≡ bad_start
-            no_start [] e = ap lines_text (ap lines_of e ∙ no_lines)
-            no_start (b ∷ bs) e = ap lines_text (cut_here 1 input 0 end (omega (arith, ap (λ (l : List ℕ). length l) e)) ends h)
+      pub played_bad : lines_text (lines_of input) ≡ bad_start → (out' : List ℕ) → out' ≡ laid_over out 0 (text "bad start\n") → (r : ℕ) → r ≡ length (text "bad start\n") → Prints (printed input) out out' r
+      played_bad e out' is r size = by_text bad_start (by_lines ∙ e) out' r (alone (omega arith) out' is r size)
 
-        module _ (h : end < length input) where
-          first_line : lines_of input ≡ ended (take end input) ∷ lines_of (drop (end + 1) input)
-          first_line =
-              let all : end - 0 ≡ end = omega arith in
-              ended_here 1 input 0 end (omega arith) ends h ∙ ap (λ (z : ℕ). ended (take z input) ∷ lines_of (drop (end + 1) input)) all
+      module _ (x : Start) (mode : ℕ) (steps : List ℕ) (so : Starts input x mode steps) (out₁ : List ℕ) (at : ℕ)
+          (put : record { bytes = out₁; end = at } ≡ wrote out 0 (header_text x.n x.m mode)) (near : at ≤ 0 + 64) where
+        abbrev header : List ℕ
+        header = header_text x.n x.m mode
 
-          module _ (s : std.Option declared.Shelf) (says : said_start s ≡ start_in (ended (take end input))) where
-            by_start : printed input ≡ run_text (said_start s) (lines_of (drop (end + 1) input))
-            by_start = by_lines ∙ ap lines_text first_line ∙ ap (λ (o : Option Start). run_text o (lines_of (drop (end + 1) input))) (sym says)
+        header_laid : out₁ ≡ laid_over out 0 header
+        header_laid = line_laid out 0 header out₁ at put (omega (arith, long))
 
-            pub played_bad : s ≡ None → (out' : List ℕ) → out' ≡ laid_over out 0 (text "bad start\n") → (r : ℕ) → r ≡ length (text "bad start\n") → Prints (printed input) out out' r
-            played_bad e = bad_start_lem (by_start ∙ ap (λ (x : std.Option declared.Shelf). run_text (said_start x) (lines_of (drop (end + 1) input))) e)
+        header_end : at ≡ 0 + length header
+        header_end = line_end out 0 header out₁ at put (omega (arith, long))
 
-            module _ (n m mode : ℕ) (is : s ≡ Some (record { n = n; m = m; mode = mode })) (force : ℕ) (force_is : force ≡ mode_in_force (record { n = n; m = m; mode = mode })) where
-              by_opening : {b : Bool} → opens (record { n = n; m = m; mode = mode }) ≡ b → printed input ≡ cond b (shelf_text input (end + 1) (record { n = n; m = m; mode = mode })) bad_start
-              by_opening e =
-                  by_start
-                  ∙ ap (λ (x : std.Option declared.Shelf). run_text (said_start x) (lines_of (drop (end + 1) input))) is
-                  ∙ ap (λ (b : Bool). cond b (shelf_text input (end + 1) (record { n = n; m = m; mode = mode })) bad_start) e
+        out_long : length out₁ ≡ 64064
+        out_long = ap (λ (l : List ℕ). length l) header_laid ∙ laid_long out 0 header ∙ long
 
-              pub played_none : force ≡ 0 → (out' : List ℕ) → out' ≡ laid_over out 0 (text "bad start\n") → (r : ℕ) → r ≡ length (text "bad start\n") → Prints (printed input) out out' r
-              played_none e = bad_start_lem (by_opening (none_opens (record { n = n; m = m; mode = mode }) (sym force_is ∙ e)))
+        pub can_run : Runs steps x.n out₁ at
+        can_run =
+            let allowed = opens_says x.n x.m x.mode so.can_open in
+            record {
+              some_desks = allowed.desks_least;
+              few_desks = allowed.desks_most;
+              few_lines = omega (arith, few_lines, so.lines);
+              room = omega (arith, near, few_lines, so.lines, out_long);
+            }
 
-              module _ (on : force ≡ 0 → ⊥) where
-                opened_so : InForce (record { n = n; m = m; mode = mode })
-                opened_so = all_open (record { n = n; m = m; mode = mode }) (λ e. on (force_is ∙ e))
+        pub played : (out₂ : List ℕ) (r : ℕ) → Ran (run_of steps x) out₁ at out₂ r → Prints (printed input) out out₂ r
+        played out₂ r ran =
+            let all : List ℕ = run_of steps x in
+            let r_is : r ≡ length (header ++ all) = omega (arith, ran.ends, header_end, length-append header all) in
+            by_text (shelf_text steps x) (by_lines ∙ so.text) out₂ r
+            (record {
+              bytes =
+                  ran.bytes
+                  ∙ ap (λ (l : List ℕ). laid_over l at all) header_laid
+                  ∙ ap (λ (z : ℕ). laid_over (laid_over out 0 header) z all) header_end
+                  ∙ laid_behind out 0 header all (omega (arith, header_end, ran.ends, ran.room, out_long, long))
+                  ∙ ap (λ (f : ℕ). laid_over out 0 (header_text x.n x.m f ++ all)) so.in_force;
+              long = r_is ∙ ap (λ (f : ℕ). length (header_text x.n x.m f ++ all)) so.in_force;
+              room = omega (arith, ran.room, ap (λ (l : List ℕ). length l) ran.bytes ∙ laid_long out₁ at all);
+            })
 
-                pub can_play : ShelfPlays input (end + 1) (record { n = n; m = m; mode = mode }) force out
-                can_play =
-                    record {
-                      can_open = opened_so.can_open;
-                      in_force = force_is ∙ opened_so.mode_is;
-                      few_bytes = few_bytes;
-                      within_input = omega arith;
-                      few_lines = omega (arith, few_lines, ap (λ (ls : List Line). length ls) first_line);
-                      long = long;
-                    }
-
-                pub played_shelf : (out' : List ℕ) (r : ℕ) → Prints (shelf_text input (end + 1) (record { n = n; m = m; mode = mode })) out out' r → Prints (printed input) out out' r
-                played_shelf = by_text (shelf_text input (end + 1) (record { n = n; m = m; mode = mode })) (by_opening opened_so.can_open)
-
--- the first line, as it is lent
-pub first_long : (input : List ℕ) (end : ℕ) → end < length input → end ≡ length (take end input)
-first_long input end h = sym (length-take-le end input (omega arith))
-
-pub ruleset plays = (first_long, played_long, played_cut, played_bad, played_none, can_play, played_shelf)
+pub ruleset plays = (played_long, played_bad, can_run, played)

@@ -1,26 +1,20 @@
 -- `play` meets its contract, return by return (`plays`).
 -- Assumes nothing.
-use borrow.Author.Rules.{rules}
-use Rattle.play.proofs.Laws.Whole.{plays}
+use Rattle.play.proofs.Laws.Whole.{played_long, played_bad, can_run, played}
 use Rattle.play.proofs.play.Goals as goal
 
 pub returns-then-too_long : goal.returns-then-too_long
-returns-then-too_long c = search (plays, rules)
+returns-then-too_long c = played_long _ _ c.told-out _ c.too_long.ensures c.if-too_long.true _ c.put_alone.ensures.out_after _ c.put_alone.ensures.value
 
-pub returns-then-input-end : goal.returns-then-input-end
-returns-then-input-end c = search (plays, rules)
+pub returns-in_default : goal.returns-in_default
+returns-in_default c =
+    played_bad _ _ c.told-out _ c.too_long.ensures c.if-too_long.false c.in_default.ensures _ c.put_alone-in_default.ensures.out_after _ c.put_alone-in_default.ensures.value
 
-pub slice_bounds-start_in-end : goal.slice_bounds-start_in-end
-slice_bounds-start_in-end c = search (plays, rules)
+pub run-requires : goal.run-requires
+run-requires c =
+    can_run _ _ c.told-out _ c.too_long.ensures c.if-too_long.false _ _ _ c.in-Some.ensures _ _ c.put_header-at.ensures.result_after c.put_header-at.ensures.upper_bound
 
-pub returns-then-force-eq0 : goal.returns-then-force-eq0
-returns-then-force-eq0 c = search (plays, rules)
-
-pub play_shelf-requires : goal.play_shelf-requires
-play_shelf-requires c = search (plays, rules)
-
-pub returns-in-None : goal.returns-in-None
-returns-in-None c = search (plays, rules)
-
-pub returns-else-force-eq0 : goal.returns-else-force-eq0
-returns-else-force-eq0 c = search (plays, rules)
+pub returns : goal.returns
+returns c =
+    played _ _ c.told-out _ c.too_long.ensures c.if-too_long.false _ _ _ c.in-Some.ensures _ _ c.put_header-at.ensures.result_after c.put_header-at.ensures.upper_bound _ _
+    c.run.ensures
