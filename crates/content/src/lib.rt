@@ -13,6 +13,7 @@ use std::fmt;
 
 // "A cell's content is blank, open, or a day with its signed 32-bit number; each is a case of its
 // own." Blank means never written.
+// Stays: an enum with a case for nothing, and no Option: document 01 names these three cases.
 #[derive(Clone, Copy, Debug, PartialEq, Eq)]
 pub enum Content {
     Blank,
@@ -41,6 +42,7 @@ impl Content {
     }
 
     // The number of the kind: 0 blank, 1 open, 2 a day.
+    // Stays: a number, since an entry's second byte and a record's array of kinds hold it.
     pub fn kind(self) -> u8
         ensures { result ≡ kind_of self }
     {
@@ -52,6 +54,7 @@ impl Content {
     }
 
     // The day's number; 0 where the content is no day.
+    // Stays: no Option, since a record's array and an open entry's four bytes hold the 0.
     pub fn day(self) -> i32
         ensures { result ≡ day_of self }
     {

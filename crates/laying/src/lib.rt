@@ -6,6 +6,7 @@ ghost use Rattle.std.specs.Prelude.{◌≡◌};
 ghost use Rattle.laying.specs.Laying.{laid_over};
 
 // Lays src over the buffer from `at` on; where it has no room there, every byte stays.
+// Stays: a place beside the buffer, and no part of it: `laid_over` says what comes of any place.
 pub fn put(buf: &mut [u8], at: usize, src: &[u8])
     ensures { buf.new ≡ laid_over buf.old at src.now }
 {

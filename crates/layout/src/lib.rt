@@ -11,6 +11,7 @@ use content::Content;
 
 // An entry as it stands in a sheet: the day is the number of its four bytes. Not every kind and day
 // is a good entry's.
+// Stays: a byte of a kind and no Content, since any bytes may be read, and `entry_of` keeps them.
 #[derive(Clone, Copy, Debug, PartialEq, Eq)]
 pub struct Entry {
     pub cell: u8,
