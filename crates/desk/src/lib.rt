@@ -20,7 +20,7 @@ use sound::Head;
 // "A record holds n, m, the desk's own number, mode .., turn number, shelf, pending entries, and the
 // waiting read if any." The head has the numbers; the shelf and the pending entries are an array of
 // kinds and one of days each, with 64 places. A pending place that is not blank is a pending entry.
-// Stays: arrays of kinds and days, and numbers in the head; 01 has them so, and any are given (`sound`).
+// Stays: kinds, mode and waiting read are numbers: any record is given, forged ones too (`sound`).
 #[derive(Clone, Copy)]
 pub struct Desk {
     pub head: Head,
