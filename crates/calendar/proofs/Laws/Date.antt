@@ -9,11 +9,11 @@
 --   day_at                                   those of them that `Date::at` needs
 -- Assumes nothing.
 use mathlib.Core.Path.{◌≡◌, refl, ap, subst, ◌∙◌}
-use mathlib.Core.Bool.{Bool, true, false, cond, ◌&&◌}
+use mathlib.Core.Bool.{Bool, true, false, cond}
 use Prim.Native.Nat.{ℕ, suc, ◌+◌, ◌-◌, ◌≤◌, ◌<◌}
 use native.Mathlib.Numerals.{add-one}
 use native.Mathlib.Omega.{arith}
-use lib.Dec.{leb, ltb}
+use lib.Dec.{ltb}
 use borrow.Author.Tests.{ltb-true, ltb-false, le-leb}
 use Rattle.numbers.proofs.Tests.{tested}
 use Rattle.calendar.specs.Spans.{before, span_of}
@@ -33,10 +33,6 @@ pub record Fields (t : Date) : Type 0 where
   pub month_last : t.month ≤ 12
   pub day_first : 1 ≤ t.day
   pub day_last : t.day ≤ month_length t.year (t.month - 1)
-
--- what the code has tested before it looks the month up
-pub month_tested : (years : Bool) (m : ℕ) → (years && leb 1 m && leb m 12) ≡ true → (1 ≤ m) × (m ≤ 12)
-month_tested years m e = search tested
 
 pub fields : (t : Date) → is_date t ≡ true → Fields t
 unfolding is_date
