@@ -16,6 +16,7 @@ pub(crate) struct Seen {
 }
 
 // None of a book of no bytes. Refusal 23.
+#[tactic(auto, using(crate::proofs::Laws::Examining::examines))]
 pub(crate) fn examine(book: &[u8]) -> Result<Option<Seen>, Refusal>
     ensures { result ≡ examined_of book.now }
 {
@@ -32,6 +33,7 @@ pub(crate) fn examine(book: &[u8]) -> Result<Option<Seen>, Refusal>
 
 // The sheets before a place, where a sheet with the newest's numbers starts: each is looked at
 // once. None where they are not good.
+#[tactic(auto, using(crate::proofs::Laws::Examining::olders))]
 fn sheets_before(book: &[u8], place: usize, newest: Numbers) -> Option<usize>
     requires { place ≤ length book.now }
     ensures { result ≡ older_of newest newest.turn (sheets_of (take place book.now)) }

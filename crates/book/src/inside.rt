@@ -9,6 +9,7 @@ use crate::Back;
 
 // From a place in the book: the sheet is tested part by part where it stands, so that the compiler
 // puts the whole of it into the loop that calls it.
+#[tactic(auto, using(crate::proofs::Laws::Stepping::steps))]
 pub(crate) fn tested_back(book: &[u8], place: usize) -> Option<Back>
     requires { place ≤ length book.now }
     ensures { result ≡ step_back book.now place }
@@ -32,6 +33,7 @@ pub(crate) fn tested_back(book: &[u8], place: usize) -> Option<Back>
 }
 
 // From a place where a good sheet ends, or from the front: the sheet need not be tested again.
+#[tactic(auto, using(crate::proofs::Laws::Stepping::steps))]
 pub(crate) fn known_back(book: &[u8], place: usize) -> Option<Back>
     requires { (place ≤ length book.now) × (0 < place → good (last_sheet (take place book.now)) ≡ true) }
     ensures { result ≡ step_back book.now place }

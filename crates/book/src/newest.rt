@@ -12,6 +12,7 @@ use layout::Entry;
 
 // "When a step back gives no sheet, the lookup ends at once with that answer." "the lookup's answer
 // is then blank."
+#[tactic(auto, using(crate::proofs::Laws::Lookup::newests))]
 pub(crate) fn entry(book: &[u8], cell: u8) -> Option<Found>
     requires { every_sheet good (sheets_of book.now) ≡ true }
     ensures { result ≡ found_of (newest cell (sheets_of book.now)) }
@@ -39,6 +40,7 @@ pub(crate) fn entry(book: &[u8], cell: u8) -> Option<Found>
 }
 
 // The entry for a cell among a sheet's first `count`.
+#[tactic(auto, using(crate::proofs::Laws::Lookup::hits))]
 fn entry_on(s: &[u8], count: u8, cell: u8) -> Option<Entry>
     requires { 6 * count + 12 ≤ length s.now }
     ensures { result ≡ entry_on cell (entries_of count s.now) }

@@ -5,20 +5,11 @@ use borrow.Author.Rules.{rules}
 use Rattle.book.proofs.Laws.Examining.{olders}
 use Rattle.book.proofs.examined.sheets_before.Goals as goal
 
-pub loop-at-init : goal.loop-at-init
-loop-at-init c = search (olders, rules)
-
-pub tested_back-requires : goal.tested_back-requires
-tested_back-requires c = search (olders, rules)
-
 pub returns-in_err-start : goal.returns-in_err-start
 returns-in_err-start c = search (olders, c.in_err-start.was, c.from_residual.ensures, rules)
 
 pub returns-then-not-fits_before : goal.returns-then-not-fits_before
 returns-then-not-fits_before c = search (olders, c.in_ok-start.was, rules)
-
-pub overflow_add-sheets : goal.overflow_add-sheets
-overflow_add-sheets c = search (olders, c.in_ok-start.was, rules)
 
 pub loop-at-smaller : goal.loop-at-smaller
 loop-at-smaller c = search (olders, c.in_ok-start.was, rules)
