@@ -65,31 +65,21 @@ impl Head {
     }
 }
 
-fn same_day(a: i32, b: i32) -> bool
-    ensures { result ≡ same_day a b }
-{
-    a == b
-}
-
 // "day numbers are 0 unless the content is a day".
 fn day_fits(kind: u8, day: i32) -> bool
     ensures { result ≡ day_fits kind day }
 {
-    let none = same_day(day, 0);
-    (kind == 2) | none
+    (kind == 2) | (day == 0)
 }
 
 // "cells from m up are blank and not pending".
 fn blank_from<'a>(m: u8, kind: &'a [u8; 64], pkind: &'a [u8; 64]) -> bool
     ensures { result ≡ each 64 (blank_from m kind.now pkind.now) }
 {
+    let from = (m as usize).min(64);
     let mut ok = true;
-    let mut i: usize = m as usize;
-    while i < 64 {
-        let a = cells::kind_at(kind, i);
-        let b = cells::kind_at(pkind, i);
-        ok = ok & ((a == 0) & (b == 0));
-        i += 1;
+    for (a, b) in kind[from..].iter().zip(&pkind[from..]) {
+        ok &= (*a == 0) & (*b == 0);
     }
     ok
 }
@@ -108,13 +98,8 @@ fn all_kinds_fit<'a>(causal: bool, kind: &'a [u8; 64], pkind: &'a [u8; 64]) -> b
     ensures { result ≡ each 64 (λ i. kinds_fit causal (kind_at kind.now i) (kind_at pkind.now i)) }
 {
     let mut ok = true;
-    let mut i: usize = 0;
-    while i < 64 {
-        let a = cells::kind_at(kind, i);
-        let b = cells::kind_at(pkind, i);
-        let fit = kinds_fit(causal, a, b);
-        ok = ok & fit;
-        i += 1;
+    for (a, b) in kind.iter().zip(pkind) {
+        ok &= kinds_fit(causal, *a, *b);
     }
     ok
 }
@@ -123,13 +108,8 @@ fn all_days_fit<'a>(kind: &'a [u8; 64], day: &'a [i32; 64]) -> bool
     ensures { result ≡ each 64 (λ i. day_fits (kind_at kind.now i) (day_at day.now i)) }
 {
     let mut ok = true;
-    let mut i: usize = 0;
-    while i < 64 {
-        let a = cells::kind_at(kind, i);
-        let b = cells::day_at(day, i);
-        let fit = day_fits(a, b);
-        ok = ok & fit;
-        i += 1;
+    for (a, b) in kind.iter().zip(day) {
+        ok &= day_fits(*a, *b);
     }
     ok
 }
@@ -145,15 +125,8 @@ fn all_days_agree<'a>(day: &'a [i32; 64], pkind: &'a [u8; 64], pday: &'a [i32; 6
     ensures { result ≡ each 64 (λ i. same_day (day_at pday.now i) (wanted_day (kind_at pkind.now i) (day_at day.now i))) }
 {
     let mut ok = true;
-    let mut i: usize = 0;
-    while i < 64 {
-        let a = cells::kind_at(pkind, i);
-        let b = cells::day_at(day, i);
-        let c = cells::day_at(pday, i);
-        let want = wanted(a, b);
-        let fit = same_day(c, want);
-        ok = ok & fit;
-        i += 1;
+    for i in 0..64 {
+        ok &= pday[i] == wanted(pkind[i], day[i]);
     }
     ok
 }

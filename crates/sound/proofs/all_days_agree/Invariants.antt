@@ -1,6 +1,5 @@
 -- `all_days_agree` meets its contract: the test was made of each place passed (`EachSoFar`).
 -- Assumes nothing.
-use Prim.Native.Nat.{◌-◌}
 use Rattle.cells.specs.Cells.{kind_at, day_at}
 use Rattle.sound.specs.Sound.{same_day}
 use Rattle.sound.specs.Parts.{wanted_day}
@@ -9,6 +8,3 @@ use Rattle.sound.proofs.all_days_agree.Given as goal
 
 abbrev pub invariant-loop-i : goal.invariant-loop-i
 invariant-loop-i l = EachSoFar (λ j. same_day (day_at l.pday j) (wanted_day (kind_at l.pkind j) (day_at l.day j))) l.ok l.i
-
-abbrev pub decreases-loop-i : goal.decreases-loop-i
-decreases-loop-i l = 64 - l.i

@@ -1,13 +1,10 @@
 -- `all_days_fit` meets its contract: the test was made of each place passed (`EachSoFar`).
 -- Assumes nothing.
-use Prim.Native.Nat.{◌-◌}
+use Rattle.std.proofs.Common.{length}
 use Rattle.cells.specs.Cells.{kind_at, day_at}
 use Rattle.sound.specs.Sound.{day_fits}
 use Rattle.sound.proofs.Laws.Scans.{EachSoFar}
 use Rattle.sound.proofs.all_days_fit.Given as goal
 
-abbrev pub invariant-loop-i : goal.invariant-loop-i
-invariant-loop-i l = EachSoFar (λ j. day_fits (kind_at l.kind j) (day_at l.day j)) l.ok l.i
-
-abbrev pub decreases-loop-i : goal.decreases-loop-i
-decreases-loop-i l = 64 - l.i
+abbrev pub invariant-loop-a : goal.invariant-loop-a
+invariant-loop-a l = EachSoFar (λ j. day_fits (kind_at l.kind j) (day_at l.day j)) l.ok (length l.yielded)
