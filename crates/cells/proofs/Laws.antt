@@ -18,7 +18,8 @@ use mir.Syntax.{w8}
 use mir.Val.{Fits}
 use lib.ListN.{length, get_or, set, length-set}
 use lib.Seq.{get_or-set_same, get_or-set_other}
-use borrow.Author.Tests.{lt-ltb, le-ltb, eqb-true, eqb-false}
+use borrow.Author.Tests.{lt-ltb, le-ltb, ltb-true, ltb-false, eqb-true, eqb-false}
+use Rattle.std.proofs.lemmas.List.{get_or_past}
 use Rattle.content.specs.declared.Content.{Content}
 use Rattle.content.specs.Content.{content_of}
 use Rattle.cells.specs.Cells.{place_at, kind_at, day_at, content_at, filled, put_if, each, anywhere, count}
@@ -33,6 +34,14 @@ module _ {A : Type 0} (none : A) (l : List A) (i : ℕ) where
   pub no_place : 64 ≤ i → none ≡ place_at none l i
   unfolding place_at
   no_place h = rw (le-ltb i 64 h)
+
+  -- in an array of 64 elements: past them `get_or` gives `none` too
+  pub place_read : length l ≡ 64 → get_or l i none ≡ place_at none l i
+  place_read long = by_place (ltb i 64) refl
+    where
+      by_place : (t : Bool) → ltb i 64 ≡ t → get_or l i none ≡ place_at none l i
+      by_place true e = in_place (ltb-true i 64 e)
+      by_place false e = let beyond : length l ≤ i = omega (arith, long, ltb-false i 64 e) in get_or_past l i none beyond ∙ no_place (ltb-false i 64 e)
 
 module _ {A : Type 0} (l : List A) (i : ℕ) (x : A) where
   pub put_on : {on : Bool} → on ≡ true → i < 64 → set l i x ≡ put_if on l i x
@@ -138,6 +147,10 @@ some_at (suc n) p e = by_last (some_at n p) (p n) refl
 
 -- ---- the loops
 
+at_most_one : (t : Bool) → cond t 1 0 ≤ 1
+at_most_one true = omega arith
+at_most_one false = omega arith
+
 module _ (kinds : List ℕ) where
   pub record AnySoFar (any : Bool) (i : ℕ) : Type 0 where
     pub within : i ≤ 64
@@ -147,9 +160,9 @@ module _ (kinds : List ℕ) where
   unfolding anywhere
   any_begun = record { within = omega arith; found = refl }
 
-  pub any_turned : {any : Bool} {i kind : ℕ} → AnySoFar any i → i < 64 → kind ≡ kind_at kinds i → AnySoFar (any || not (eqb kind 0)) (i + 1)
+  pub any_turned : {any : Bool} {i : ℕ} → AnySoFar any i → i < 64 → AnySoFar (any || not (eqb (get_or kinds i 0) 0)) (i + 1)
   unfolding anywhere
-  any_turned so h e = record { within = omega arith; found = rw (add-one, e, so.found) }
+  any_turned {i = i} so h = record { within = omega arith; found = rw (add-one, so.found, in_place 0 kinds i h) }
 
   pub any_ended : {any : Bool} {i : ℕ} → AnySoFar any i → 64 ≤ i → any ≡ anywhere 64 (filled kinds)
   any_ended {i = i} so h = let all : i ≡ 64 = omega (arith, so.within) in so.found ∙ ap (λ (j : ℕ). anywhere j (filled kinds)) all
@@ -163,21 +176,17 @@ module _ (kinds : List ℕ) where
   unfolding count
   count_begun = record { within = omega arith; few = omega arith; found = refl }
 
-  at_most_one : (t : Bool) → cond t 1 0 ≤ 1
-  at_most_one true = omega arith
-  at_most_one false = omega arith
-
-  module _ {n i kind one : ℕ} (so : CountSoFar n i) (h : i < 64) (k : kind ≡ kind_at kinds i) (e : one ≡ cond (not (eqb kind 0)) 1 0) where
+  module _ {n i one : ℕ} (so : CountSoFar n i) (h : i < 64) (e : one ≡ cond (not (eqb (get_or kinds i 0) 0)) 1 0) where
     pub count_fits : Fits w8 (n + one)
-    count_fits = record { fits = omega (arith, so.few, e, at_most_one (not (eqb kind 0))) }
+    count_fits = record { fits = omega (arith, so.few, e, at_most_one (not (eqb (get_or kinds i 0) 0))) }
 
     pub count_turned : CountSoFar (n + one) (i + 1)
     unfolding count
     count_turned =
         record {
           within = omega arith;
-          few = omega (arith, so.few, e, at_most_one (not (eqb kind 0)));
-          found = rw (add-one, e, k, so.found);
+          few = omega (arith, so.few, e, at_most_one (not (eqb (get_or kinds i 0) 0)));
+          found = rw (add-one, e, so.found, in_place 0 kinds i h);
         }
 
   pub count_ended : {n i : ℕ} → CountSoFar n i → 64 ≤ i → n ≡ count 64 (filled kinds)
@@ -186,10 +195,6 @@ module _ (kinds : List ℕ) where
 pub count_within : (n : ℕ) (p : ℕ → Bool) → count n p ≤ n
 unfolding count
 count_within zero p = omega arith
-count_within (suc n) p = omega (arith, count_within n p, one (p n))
-  where
-    one : (t : Bool) → cond t 1 0 ≤ 1
-    one true = omega arith
-    one false = omega arith
+count_within (suc n) p = omega (arith, count_within n p, at_most_one (p n))
 
 pub ruleset scans = (any_begun, any_turned, any_ended, count_begun, count_turned, count_fits, count_ended)

@@ -11,7 +11,7 @@ use mathlib.Core.Bool.{Bool, true, false, not, ◌&&◌, ◌||◌, and-true, and
 use mathlib.Core.List.{List}
 use lib.Dec.{eqb, ltb, eqb-suc-zero}
 use lib.IntN.{ℤ, pos}
-use borrow.Author.Tests.{eqb-true, eq-eqb, ne_eqb, not-true, not-false}
+use borrow.Author.Tests.{eqb-true, eq-eqb, ne_eqb}
 use Rattle.cells.specs.Cells.{kind_at, day_at, filled, each, anywhere}
 use Rattle.cells.proofs.Laws.{each_same, each_both}
 use Rattle.sound.specs.declared.Head.{Head}
@@ -94,10 +94,10 @@ place_in_others k (suc p) d q = rw (eqb-suc-zero p) (by_kind (eqb (suc p) k) ref
 -- ---- the whole
 
 -- the tests in the code's order, and in the definition's
-in_order : (blanks k d wait clauses shown agree : Bool) → k && d ≡ clauses && shown && agree
-    → (blanks && k) && (d && wait) ≡ clauses && blanks && shown && agree && wait
-in_order true k d wait clauses shown agree e = rw (and-true clauses) (sym (and_assoc k d wait) ∙ ap (λ (t : Bool). t && wait) e)
-in_order false k d wait clauses shown agree e = rw (and-false clauses)
+in_order : (blanks k d q wait clauses shown agree : Bool) → k && (d && q) ≡ clauses && shown && agree
+    → (((blanks && k) && d) && q) && wait ≡ clauses && blanks && shown && agree && wait
+in_order true k d q wait clauses shown agree e = rw (and-true clauses) (ap (λ (t : Bool). t && wait) (and_assoc k d q ∙ e))
+in_order false k d q wait clauses shown agree e = rw (and-false clauses)
 
 module _ (h : Head) (kind : List ℕ) (day : List ℤ) (pkind : List ℕ) (pday : List ℤ) where
   -- the code's tests of place i ..
@@ -142,24 +142,24 @@ module _ (h : Head) (kind : List ℕ) (day : List ℤ) (pkind : List ℕ) (pday 
       (λ i h. place_in_others (kind_at kind i) (kind_at pkind i) (day_at day i) (day_at pday i))
       ∙ rw (each_both 64 kinds days, each_both 64 (λ i. kinds i && days i) shown, each_both 64 (λ i. kinds i && days i && shown i) agree))
 
-  pub not_sound : {l : Bool} → l ≡ limits h → not l ≡ true → false ≡ sound_of h kind day pkind pday
+  pub not_sound : {l : Bool} → l ≡ limits h → l ≡ false → false ≡ sound_of h kind day pkind pday
   unfolding sound_of
-  not_sound {l = l} e p = rw (sym e ∙ not-true l p)
+  not_sound e p = rw (sym e ∙ p)
 
-  pub sound_by_parts : {l blanks ks ds ps wait : Bool} → l ≡ limits h → not l ≡ false
+  pub sound_by_parts : {l blanks ks ds ps wait : Bool} → l ≡ limits h → l ≡ true
       → blanks ≡ each 64 (blank_from h.m kind pkind)
       → ks ≡ each 64 (λ i. kinds_fit (eqb h.mode 2) (kind_at kind i) (kind_at pkind i))
       → ds ≡ each 64 (λ i. day_fits (kind_at kind i) (day_at day i))
       → ps ≡ pending_days (eqb h.mode 2) day pkind pday
       → wait ≡ (read_waits h implies wait_sound h pkind)
-      → ((blanks && ks) && ((ds && ps) && wait)) ≡ sound_of h kind day pkind pday
+      → ((((blanks && ks) && ds) && ps) && wait) ≡ sound_of h kind day pkind pday
   unfolding sound_of pending_days
-  sound_by_parts {l = l} {blanks = blanks} {wait = wait} e p b k d q w = rw (← b, k, d, q, ← w, sym e ∙ not-false l p) (by_mode (eqb h.mode 2))
+  sound_by_parts {l = l} {blanks = blanks} {wait = wait} e p b k d q w = rw (← b, k, d, q, ← w, sym e ∙ p) (by_mode (eqb h.mode 2))
     where
       by_mode : (c : Bool)
-          → (blanks && each 64 (kinds_in c)) && ((each 64 shelf_day && pending_days c day pkind pday) && wait)
+          → (((blanks && each 64 (kinds_in c)) && each 64 shelf_day) && pending_days c day pkind pday) && wait
           ≡ each 64 kinds && each 64 days && blanks && each 64 shown && (not c implies each 64 agree) && wait
-      by_mode true = in_order blanks (each 64 (kinds_in true)) (each 64 shelf_day && each 64 pending_day) wait (each 64 kinds && each 64 days) (each 64 shown) true in_causal
-      by_mode false = in_order blanks (each 64 (kinds_in false)) (each 64 shelf_day && each 64 agreeing_day) wait (each 64 kinds && each 64 days) (each 64 shown) (each 64 agree) in_others
+      by_mode true = in_order blanks (each 64 (kinds_in true)) (each 64 shelf_day) (each 64 pending_day) wait (each 64 kinds && each 64 days) (each 64 shown) true in_causal
+      by_mode false = in_order blanks (each 64 (kinds_in false)) (each 64 shelf_day) (each 64 agreeing_day) wait (each 64 kinds && each 64 days) (each 64 shown) (each 64 agree) in_others
 
 pub ruleset answers = (no_read, a_read, causal_days, agreeing_days, not_sound, sound_by_parts)

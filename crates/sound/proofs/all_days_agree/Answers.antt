@@ -1,6 +1,6 @@
 -- `all_days_agree` meets its contract: the test was made of each place passed (`EachSoFar`).
 -- Assumes nothing.
-use Rattle.std.proofs.Common.{rules, w32, pos, FitsSigned, slice_index_or}
+use Rattle.std.proofs.Common.{rules}
 use Rattle.sound.proofs.Laws.Scans.{scans, each_turned, agree_here}
 use Rattle.sound.proofs.all_days_agree.Goals as goal
 

@@ -7,4 +7,4 @@ use Rattle.sound.proofs.Laws.Scans.{EachSoFar}
 use Rattle.sound.proofs.all_days_agree.Given as goal
 
 abbrev pub invariant-loop-i : goal.invariant-loop-i
-invariant-loop-i l = EachSoFar (λ j. same_day (day_at l.pday j) (wanted_day (kind_at l.pkind j) (day_at l.day j))) l.ok l.i
+invariant-loop-i l = EachSoFar (λ j. same_day (day_at l.pdays j) (wanted_day (kind_at l.pkinds j) (day_at l.days j))) l.ok l.i

@@ -6,5 +6,5 @@ use Rattle.sound.specs.Sound.{day_fits}
 use Rattle.sound.proofs.Laws.Scans.{EachSoFar}
 use Rattle.sound.proofs.all_days_fit.Given as goal
 
-abbrev pub invariant-loop-a : goal.invariant-loop-a
-invariant-loop-a l = EachSoFar (λ j. day_fits (kind_at l.kind j) (day_at l.day j)) l.ok (length l.yielded)
+abbrev pub invariant-loop-kind : goal.invariant-loop-kind
+invariant-loop-kind l = EachSoFar (λ j. day_fits (kind_at l.kinds j) (day_at l.days j)) l.ok (length l.yielded)

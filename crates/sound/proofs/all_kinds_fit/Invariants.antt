@@ -7,4 +7,4 @@ use Rattle.sound.proofs.Laws.Scans.{EachSoFar}
 use Rattle.sound.proofs.all_kinds_fit.Given as goal
 
 abbrev pub invariant-loop-a : goal.invariant-loop-a
-invariant-loop-a l = EachSoFar (λ j. kinds_fit l.causal (kind_at l.kind j) (kind_at l.pkind j)) l.ok (length l.yielded)
+invariant-loop-a l = EachSoFar (λ j. kinds_fit l.causal (kind_at l.kinds j) (kind_at l.pkinds j)) l.ok (length l.yielded)

@@ -10,10 +10,10 @@ loop-a-init c = search (scans, rules)
 
 pub loop-a-preserved : goal.loop-a-preserved
 loop-a-preserved c =
-    blank_turned _ _ _ _ _ c.next.new.self _ c.min-from.result (search rules) c.loop-a.invariant c.told-kind c.told-pkind (search rules) (search rules) c.loop-a.yielded_by
+    blank_turned _ _ _ _ _ c.next.new.self _ c.min-from.result (search rules) c.loop-a.invariant c.told-kinds c.told-pkinds (search rules) (search rules) c.loop-a.yielded_by
     c.next.ensures.steps _ _ c.in-Some.is
 
 pub returns : goal.returns
 returns c =
-    blank_ended _ _ _ _ _ c.next.new.self _ c.min-from.result (search rules) c.loop-a.invariant c.told-kind c.told-pkind (search rules) (search rules) c.loop-a.yielded_by
+    blank_ended _ _ _ _ _ c.next.new.self _ c.min-from.result (search rules) c.loop-a.invariant c.told-kinds c.told-pkinds (search rules) (search rules) c.loop-a.yielded_by
     c.next.ensures.steps c.in-None.is

@@ -7,4 +7,4 @@ use Rattle.sound.proofs.Laws.Scans.{EachSoFar}
 use Rattle.sound.proofs.blank_from.Given as goal
 
 abbrev pub invariant-loop-a : goal.invariant-loop-a
-invariant-loop-a l = EachSoFar (blank_from l.m l.kind l.pkind) l.ok (l.m + length l.yielded)
+invariant-loop-a l = EachSoFar (blank_from l.m l.kinds l.pkinds) l.ok (l.m + length l.yielded)

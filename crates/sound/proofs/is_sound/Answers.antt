@@ -4,8 +4,8 @@ use borrow.Author.Rules.{rules}
 use Rattle.sound.proofs.Laws.Clauses.{answers}
 use Rattle.sound.proofs.is_sound.Goals as goal
 
-pub returns-then-not-limits : goal.returns-then-not-limits
-returns-then-not-limits c = search (answers, rules)
+pub returns-then-not-in_limits : goal.returns-then-not-in_limits
+returns-then-not-in_limits c = search (answers, rules)
 
 pub returns : goal.returns
 returns c = search (answers, rules)

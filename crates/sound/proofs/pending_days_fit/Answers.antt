@@ -7,5 +7,5 @@ use Rattle.sound.proofs.pending_days_fit.Goals as goal
 pub returns-then-causal : goal.returns-then-causal
 returns-then-causal c = search (answers, rules)
 
-pub returns : goal.returns
-returns c = search (answers, rules)
+pub returns-else-causal : goal.returns-else-causal
+returns-else-causal c = search (answers, rules)
