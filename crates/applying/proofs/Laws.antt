@@ -17,7 +17,7 @@ use lib.IntN.{ℤ}
 use lib.ListN.{length, get_or, set, drop}
 use lib.Seq.{drop-drop}
 use mir.Syntax.{w8, w32}
-use mir.Val.{Fits, SFits, to_z, of_z}
+use mir.Val.{Fits, SFits, to_z, of_z, bool_byte}
 use mir.Facts.{to_z-of_z}
 use borrow.Author.Tests.{le-leb, lt-leb}
 use Rattle.cells.specs.Cells.{place_at, put_if}
@@ -89,6 +89,11 @@ laid_kept none going value i l (e ∷ es) all =
 at_most_one : (t : Bool) → cond t 1 0 ≤ 1
 at_most_one true = omega arith
 at_most_one false = omega arith
+
+-- a test as a number, as the code casts it
+pub counted : (t : Bool) → bool_byte t ≡ cond t 1 0
+counted true = refl
+counted false = refl
 
 module _ (going : Entry → Bool) where
   pub went_within : (es : List Entry) → went_of going es ≤ length es

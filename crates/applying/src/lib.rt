@@ -13,8 +13,7 @@ use layout::Entry;
 fn entry_goes(causal: bool, pkind: &[u8; 64], e: Entry) -> bool
     ensures { result ≡ goes causal pkind.now e }
 {
-    let kind = cells::kind_at(pkind, e.cell as usize);
-    causal | (kind == 0)
+    causal || pkind.get(e.cell as usize).copied().unwrap_or(0) == 0
 }
 
 // Puts the first `count` entries of a sheet on the shelf, each that goes there, and counts these.
@@ -29,19 +28,16 @@ pub fn apply(
 ) -> u8
     ensures { AppliesEntries causal pkind.now (entries_in s.now count) kind.old day.old result kind.new day.new }
 {
-    let mut went: u8 = 0;
+    let mut went = 0;
     if s.len() < 6 * (count as usize) + 12 {
         return went;
     }
-    let mut i: u8 = 0;
-    while i < count {
+    for i in 0..count {
         let e = sheet::entry_at(s, i);
         let on = entry_goes(causal, pkind, e);
-        let d = e.day.cast_signed();
-        cells::put_kind(kind, on, e.cell as usize, e.kind);
-        cells::put_day(day, on, e.cell as usize, d);
-        went += cells::one_if(on);
-        i += 1;
+        cells::put(kind, on, e.cell as usize, e.kind);
+        cells::put(day, on, e.cell as usize, e.day.cast_signed());
+        went += u8::from(on);
     }
     went
 }

@@ -2,7 +2,7 @@
 --   places                                  a set for `search`: one place read, and one put, by each test of the code
 --   place_put, place_kept, place_length     what stands in a place after a put, and how long the array is
 --   each_at, each_if, each_both             what a test of each place says of one
---   some_at, some_if                        what a test of some place says
+--   some_at, some_if, none_if               what a test of some place says
 --   AnySoFar, CountSoFar and their laws     the two loops over the places
 -- Assumes nothing.
 use Prim.Native.Nat.{ℕ, zero, suc, ◌+◌, ◌≤◌, ◌<◌}
@@ -19,7 +19,10 @@ use mir.Val.{Fits}
 use lib.ListN.{length, get_or, set, length-set}
 use lib.Seq.{get_or-set_same, get_or-set_other}
 use borrow.Author.Tests.{lt-ltb, le-ltb, ltb-true, ltb-false, eqb-true, eqb-false}
+use Rattle.std.proofs.Common.{Bor, Option}
 use Rattle.std.proofs.lemmas.List.{get_or_past}
+use Rattle.std.specs.Option.{unwrap_or, option_copied}
+use Rattle.std.specs.Slice.{IsItemAt}
 use Rattle.content.specs.declared.Content.{Content}
 use Rattle.content.specs.Content.{content_of}
 use Rattle.cells.specs.Cells.{place_at, kind_at, day_at, content_at, filled, put_if, each, anywhere, count}
@@ -42,6 +45,10 @@ module _ {A : Type 0} (none : A) (l : List A) (i : ℕ) where
       by_place : (t : Bool) → ltb i 64 ≡ t → get_or l i none ≡ place_at none l i
       by_place true e = in_place (ltb-true i 64 e)
       by_place false e = let beyond : length l ≤ i = omega (arith, long, ltb-false i 64 e) in get_or_past l i none beyond ∙ no_place (ltb-false i 64 e)
+
+  -- as `get`, `copied` and `unwrap_or` of std read it
+  pub place_got : length l ≡ 64 → (r : Option (Bor A)) → IsItemAt l i r → {o : Option A} → o ≡ option_copied r → {x : A} → x ≡ unwrap_or o none → x ≡ place_at none l i
+  place_got long r item o x = x ∙ ap (λ p. unwrap_or p none) o ∙ item.4 (omega arith) none ∙ place_read long
 
 module _ {A : Type 0} (l : List A) (i : ℕ) (x : A) where
   pub put_on : {on : Bool} → on ≡ true → i < 64 → set l i x ≡ put_if on l i x
@@ -127,6 +134,11 @@ some_if (suc n) p i h e = by_last (some_if n p i) (eqb i n) refl
     by_last : (i < n → p i ≡ true → anywhere n p ≡ true) → (t : Bool) → eqb i n ≡ t → (anywhere n p || p n) ≡ true
     by_last rest true q = rw (sym (ap p (eqb-true i n q)) ∙ e) (or-true (anywhere n p))
     by_last rest false q = let other = eqb-false i n q in rw (rest (omega arith) e)
+
+pub none_if : (n : ℕ) (p : ℕ → Bool) → ((i : ℕ) → i < n → p i ≡ false) → anywhere n p ≡ false
+unfolding anywhere
+none_if zero p f = refl
+none_if (suc n) p f = rw (none_if n p (λ i h. f i (omega arith)), f n (omega arith))
 
 -- where a test holds of some, there is a place of which it holds
 pub record Somewhere (n : ℕ) (p : ℕ → Bool) : Type 0 where

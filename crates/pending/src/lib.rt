@@ -11,103 +11,72 @@ ghost use Rattle.pending.specs.Pending.{pending_entries, Sends};
 ghost use Rattle.pending.specs.Parts.{some_of_eight, pending_at, pending_from, Lays};
 
 use answer::Refusal;
+use cells::Places;
 use layout::{Entry, Numbers};
 use sound::Head;
 
 // Whether one of the eight places from `from` on is filled.
-fn some_of_eight(pkind: &[u8; 64], from: usize) -> bool
+fn some_of_eight(kinds: &[u8; 64], from: usize) -> bool
     requires { from + 8 ≤ 64 }
-    ensures { result ≡ some_of_eight pkind.now from }
+    ensures { result ≡ some_of_eight kinds.now from }
 {
-    let a = cells::kind_at(pkind, from);
-    let b = cells::kind_at(pkind, from + 1);
-    let c = cells::kind_at(pkind, from + 2);
-    let d = cells::kind_at(pkind, from + 3);
-    let e = cells::kind_at(pkind, from + 4);
-    let f = cells::kind_at(pkind, from + 5);
-    let g = cells::kind_at(pkind, from + 6);
-    let h = cells::kind_at(pkind, from + 7);
-    (((a != 0) | (b != 0)) | ((c != 0) | (d != 0)))
-        | (((e != 0) | (f != 0)) | ((g != 0) | (h != 0)))
+    kinds[from..from + 8].iter().any(|kind| *kind != 0)
 }
 
 // Lays the entry of place i over the buffer from `at` on, where the place is filled; answers where
 // it ends.
-fn lay_one<'a>(
-    buf: &mut [u8],
-    at: usize,
-    pkind: &'a [u8; 64],
-    pday: &'a [i32; 64],
-    i: usize,
-) -> usize
-    requires { at + length (entries_bytes (pending_at pkind.now pday.now i)) ≤ length buf.old }
-    ensures { Lays buf.old at (entries_bytes (pending_at pkind.now pday.now i)) result buf.new }
+fn lay_one(buf: &mut [u8], at: usize, pending: Places, i: usize) -> usize
+    requires { at + length (entries_bytes (pending_at pending.kinds.now pending.days.now i)) ≤ length buf.old }
+    ensures { Lays buf.old at (entries_bytes (pending_at pending.entry.kinds.now pending.entry.days.now i)) result buf.new }
 {
-    let kind = cells::kind_at(pkind, i);
+    let kind = pending.kind(i);
     if kind == 0 {
         return at;
     }
-    let day = cells::day_at(pday, i);
     let e = Entry {
         cell: i as u8,
-        kind: kind,
-        day: day.cast_unsigned(),
+        kind,
+        day: pending.day(i).cast_unsigned(),
     };
     writer::put_entry(buf, at, e);
     at + 6
 }
 
 // The same for the eight places from `from` on.
-fn lay_eight<'a>(
-    buf: &mut [u8],
-    at: usize,
-    pkind: &'a [u8; 64],
-    pday: &'a [i32; 64],
-    from: usize,
-) -> usize
-    requires { (from + 8 ≤ 64) × (at + length (entries_bytes (pending_from pkind.now pday.now from 8)) ≤ length buf.old) }
-    ensures { Lays buf.old at (entries_bytes (pending_from pkind.now pday.now from 8)) result buf.new }
+fn lay_eight(buf: &mut [u8], at: usize, pending: Places, from: usize) -> usize
+    requires { (from + 8 ≤ 64) × (at + length (entries_bytes (pending_from pending.kinds.now pending.days.now from 8)) ≤ length buf.old) }
+    ensures { Lays buf.old at (entries_bytes (pending_from pending.entry.kinds.now pending.entry.days.now from 8)) result buf.new }
 {
-    let some = some_of_eight(pkind, from);
-    if !some {
+    if !some_of_eight(pending.kinds, from) {
         return at;
     }
     let mut end = at;
-    let mut i: usize = 0;
-    while i < 8 {
-        end = lay_one(buf, end, pkind, pday, from + i);
-        i += 1;
+    for i in 0..8 {
+        end = lay_one(buf, end, pending, from + i);
     }
     end
 }
 
 // Lays every pending entry over the front of the buffer.
-fn lay_all<'a>(buf: &mut [u8], pkind: &'a [u8; 64], pday: &'a [i32; 64])
-    requires { length (entries_bytes (pending_entries pkind.now pday.now)) ≤ length buf.old }
-    ensures { buf.new ≡ laid_over buf.old 0 (entries_bytes (pending_entries pkind.now pday.now)) }
+fn lay_all(buf: &mut [u8], pending: Places)
+    requires { length (entries_bytes (pending_entries pending.kinds.now pending.days.now)) ≤ length buf.old }
+    ensures { buf.new ≡ laid_over buf.old 0 (entries_bytes (pending_entries pending.entry.kinds.now pending.entry.days.now)) }
 {
-    let mut end: usize = 0;
-    let mut i: usize = 0;
-    while i < 8 {
-        end = lay_eight(buf, end, pkind, pday, 8 * i);
-        i += 1;
+    let mut end = 0;
+    for i in 0..8 {
+        end = lay_eight(buf, end, pending, 8 * i);
     }
 }
 
 // Writes the sheet of a desk with these numbers and pending places; answers its number of entries.
 // Refusal 11.
-pub fn write_sheet(
-    buf: &mut [u8],
-    h: Head,
-    pkind: &[u8; 64],
-    pday: &[i32; 64],
-) -> Result<u8, Refusal>
-    ensures { Sends h pkind.now pday.now buf.old result buf.new }
+pub fn write_sheet(buf: &mut [u8], h: Head, pending: Places) -> Result<u8, Refusal>
+    ensures { Sends h pending.entry.kinds.now pending.entry.days.now buf.old result buf.new }
 {
-    let count = cells::count_filled(pkind);
+    let count = pending.count_filled();
     let back = 6 * (count as usize);
     Refusal::BufferShort.when(buf.len() < back + 12)?;
-    lay_all(buf, pkind, pday);
+    lay_all(buf, pending);
     let numbers = Numbers {
         entries: count,
         sender: h.own,

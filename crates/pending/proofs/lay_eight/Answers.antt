@@ -4,8 +4,8 @@ use borrow.Author.Rules.{rules}
 use Rattle.pending.proofs.Laws.Lays.{eights}
 use Rattle.pending.proofs.lay_eight.Goals as goal
 
-pub returns-then-not-some : goal.returns-then-not-some
-returns-then-not-some c = search (eights, rules)
+pub returns-then-not-some_of_eight : goal.returns-then-not-some_of_eight
+returns-then-not-some_of_eight c = search (eights, rules)
 
 pub loop-i-init : goal.loop-i-init
 loop-i-init c = search (eights, rules)
