@@ -8,6 +8,7 @@ ghost use Rattle.desk.specs.Parts.{opened_head, waited_in, read_over};
 
 use crate::{Answer, Desk};
 use answer::Refusal;
+use cells::Places;
 use content::Content;
 use sound::Head;
 
@@ -73,10 +74,32 @@ impl Desk {
         })
     }
 
+    // The places of the shelf, lent.
+    fn shelf(&self) -> Places
+        ensures kinds { result.kinds.now ≡ self.now.kind }
+        ensures days { result.days.now ≡ self.now.day }
+    {
+        Places {
+            kinds: &self.kind,
+            days: &self.day,
+        }
+    }
+
+    // The places of the pending entries, lent.
+    fn pending(&self) -> Places
+        ensures kinds { result.kinds.now ≡ self.now.pkind }
+        ensures days { result.days.now ≡ self.now.pday }
+    {
+        Places {
+            kinds: &self.pkind,
+            days: &self.pday,
+        }
+    }
+
     pub(crate) fn is_sound(&self) -> bool
         ensures { result ≡ sound self.now }
     {
-        sound::is_sound(self.head, &self.kind, &self.day, &self.pkind, &self.pday)
+        sound::is_sound(self.head, self.shelf(), self.pending())
     }
 
     pub(crate) fn store(&mut self, cell: u32, c: Content) -> Result<Answer, Refusal>
@@ -86,10 +109,10 @@ impl Desk {
         refusals::write(self.is_sound(), self.head, cell, kind)?;
         let i = cell as usize;
         let day = c.day();
-        cells::put_kind(&mut self.kind, true, i, kind);
-        cells::put_day(&mut self.day, true, i, day);
-        cells::put_kind(&mut self.pkind, true, i, kind);
-        cells::put_day(&mut self.pday, true, i, day);
+        cells::put(&mut self.kind, true, i, kind);
+        cells::put(&mut self.day, true, i, day);
+        cells::put(&mut self.pkind, true, i, kind);
+        cells::put(&mut self.pday, true, i, day);
         Ok(Answer::Stored)
     }
 
@@ -99,9 +122,9 @@ impl Desk {
         ensures { result ≡ must_wait self.now cell }
     {
         self.head.mode == 1
-            && cells::kind_at(&self.pkind, cell as usize) == 0
+            && self.pending().kind(cell as usize) == 0
             && !self.head.own_turn()
-            && cells::any_filled(&self.pkind)
+            && self.pending().any_filled()
     }
 
     pub(crate) fn answer_cell(&mut self, cell: u32) -> Result<Answer, Refusal>
@@ -112,7 +135,7 @@ impl Desk {
             self.head.wait = cell as u8 + 1;
             return Ok(Answer::Waits);
         }
-        let c = cells::content_at(&self.kind, &self.day, cell as usize);
+        let c = self.shelf().content(cell as usize);
         Ok(Answer::Holds(c))
     }
 
@@ -121,7 +144,7 @@ impl Desk {
     {
         let h = self.head;
         refusals::send(self.is_sound(), h)?;
-        let entries = pending::write_sheet(buf, h, &self.pkind, &self.pday)?;
+        let entries = pending::write_sheet(buf, h, self.pending())?;
         self.head = next_head(h);
         self.pkind = [0; 64];
         self.pday = [0; 64];
@@ -154,7 +177,7 @@ impl Desk {
             return None;
         }
         self.head.wait = 0;
-        Some(cells::content_at(&self.kind, &self.day, usize::from(h.wait - 1)))
+        Some(self.shelf().content(usize::from(h.wait - 1)))
     }
 
     pub(crate) fn take_sheet(&mut self, tray: &mut [u8]) -> Result<Answer, Refusal>

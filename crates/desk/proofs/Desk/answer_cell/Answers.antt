@@ -18,4 +18,4 @@ pub returns-then-must_wait : goal.returns-then-must_wait
 returns-then-must_wait c = waits_so c.args.self.now _ c.is_sound.ensures c.in_ok-read.ensures c.must_wait.ensures c.if-must_wait.true
 
 pub returns : goal.returns
-returns c = holds_so c.args.self.now _ c.is_sound.ensures c.in_ok-read.ensures c.must_wait.ensures c.if-must_wait.false c.content_at-c.ensures
+returns c = holds_so c.args.self.now _ c.is_sound.ensures c.in_ok-read.ensures c.must_wait.ensures c.if-must_wait.false (rw (c.shelf.ensures.kinds, c.shelf.ensures.days) at c.content-c.ensures)

@@ -9,5 +9,5 @@ returns-in_err-write c = write_refused c.args.self.now _ c.args.c c.is_sound.ens
 
 pub returns : goal.returns
 returns c =
-    stored_so c.args.self.now _ c.args.c c.is_sound.ensures c.kind-kind.ensures c.in_ok-write.ensures (search rules) c.put_kind.ensures c.put_day.ensures c.put_kind-2.ensures
-    c.put_day-2.ensures
+    stored_so c.args.self.now _ c.args.c c.is_sound.ensures c.kind-kind.ensures c.in_ok-write.ensures (search rules) c.put.ensures c.put-2.ensures c.put-3.ensures
+    c.put-4.ensures
