@@ -9,6 +9,7 @@ use Prim.Native.Nat.{ℕ, zero, suc, ◌+◌, ◌≤◌, ◌<◌}
 use mathlib.Core.Path.{◌≡◌, refl, sym, ap, ◌∙◌}
 use mathlib.Core.Bool.{Bool, true, false, cond, not, ◌&&◌, ◌||◌, false≢true, and-eq-true_iff, or-true, or-false}
 use mathlib.Core.List.{List}
+use mathlib.Core.Logic.{◌⊎◌, inl, inr}
 use native.Mathlib.Omega.{arith}
 use native.Mathlib.Nat.{not-suc-le-zero}
 use native.Mathlib.Numerals.{add-one}
@@ -63,11 +64,15 @@ module _ {A : Type 0} (l : List A) (i : ℕ) (x : A) where
   unfolding put_if
   put_off e = rw e
 
+  pub put_not : {on : Bool} → ((on ≡ true) × (64 ≤ i)) ⊎ (on ≡ false) → l ≡ put_if on l i x
+  put_not (inl h) = put_past h.0 h.1
+  put_not (inr h) = put_off h
+
 pub content_of_lem : (kinds : List ℕ) (days : List ℤ) (i : ℕ) {kind : ℕ} {day : ℤ} {c : Content}
     → c ≡ content_of kind day → kind ≡ kind_at kinds i → day ≡ day_at days i → c ≡ content_at kinds days i
 content_of_lem kinds days i c k d = rw (c, k, d)
 
-pub ruleset places = (in_place, no_place, put_on, put_past, put_off, content_of_lem)
+pub ruleset places = (put_on, put_not)
 
 -- ---- what stands in a place after a put
 

@@ -3,10 +3,9 @@
 use Rattle.std.proofs.Common.{rules}
 use Rattle.cells.proofs.Laws.{places}
 use Rattle.cells.proofs.put.Goals as goal
-use Rattle.cells.proofs.put.Goals.{else-on-via-then-on+else-i-lt64, else-on-via-else-on}
 
 pub returns-then-i-lt64 : goal.returns-then-i-lt64
 returns-then-i-lt64 g c = search (places, rules)
 
 pub returns-else-on : goal.returns-else-on
-returns-else-on g c = elim c.else-on.branch [ else-on-via-then-on+else-i-lt64 w ↦ search (places, rules) | else-on-via-else-on w ↦ search (places, rules) ]
+returns-else-on g c = search (places, rules)
