@@ -6,6 +6,7 @@
 mod told;
 
 use calendar::Date;
+use cells::Places;
 use content::Content;
 use desk::{Answer, Desk, Outcome};
 use layout::{Entry, Numbers};
@@ -157,10 +158,20 @@ fn takes_nine(rt: &impl Print) {
     for (name, mode) in [("causal", 2), ("sequential", 1), ("cache", 3)] {
         let Outcome { answer, desk } = nine_taken(mode);
         let answer = OrRefused(answer.map(Told));
-        let shelf = cells::content_at(&desk.kind, &desk.day, 0);
-        let pending = cells::content_at(&desk.pkind, &desk.pday, 0);
+        let shelf = Places {
+            kinds: &desk.kind,
+            days: &desk.day,
+        };
+        let pending = Places {
+            kinds: &desk.pkind,
+            days: &desk.pday,
+        };
         let _ = print!(rt; "{name}, day 5 pending, day 9 taken in that cell: {answer}, ");
-        let _ = println!(rt; "shelf {shelf}, pending {pending}");
+        let _ = println!(rt;
+            "shelf {}, pending {}",
+            shelf.content(0),
+            pending.content(0)
+        );
     }
 }
 

@@ -12,7 +12,7 @@ ghost use Rattle.pending.specs.Parts.{some_of_eight, pending_at, pending_from, L
 
 use answer::Refusal;
 use cells::Places;
-use layout::{Entry, Numbers};
+use layout::{Entry, Numbers, Trailer};
 use sound::Head;
 
 // Whether one of the eight places from `from` on is filled.
@@ -84,6 +84,6 @@ pub fn write_sheet(buf: &mut [u8], h: Head, pending: Places) -> Result<u8, Refus
         cells: h.m,
         turn: h.turn,
     };
-    writer::put_trailer(buf, back, numbers.trailer());
+    writer::put_trailer(buf, back, Trailer::from(numbers));
     Ok(count)
 }

@@ -12,5 +12,5 @@ lay_all-requires c = search (sendings, rules, c.in_ok-when.ensures)
 
 pub returns : goal.returns
 returns c =
-    send_whole _ _ _ _ _ c.count_filled-count.ensures (send_fits c.args.h c.args.pending.kinds.now c.args.pending.days.now _ _ c.count_filled-count.ensures c.in_ok-when.ensures) _ c.lay_all.ensures _ c.trailer.ensures _
+    send_whole _ _ _ _ _ c.count_filled-count.ensures (send_fits c.args.h c.args.pending.kinds.now c.args.pending.days.now _ _ c.count_filled-count.ensures c.in_ok-when.ensures) _ c.lay_all.ensures _ c.from.ensures _
     c.put_trailer.ensures
