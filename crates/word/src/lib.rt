@@ -52,12 +52,12 @@ pub fn read(
 
 // Reads until the input ends, buf is full or a read fails, and answers how many bytes came, and
 // whether no read failed.
-// Stays: a pair, for its clause holds of the count on Err too, which `reread` takes; and a loop of its
-// own, for std's `read_to_end` says nothing of that count.
+// Stays: a pair and no Result, since its clause holds of the count on Err too, which `reread` takes.
 pub fn read_all(from: &mut impl Read, buf: &mut [u8]) -> (usize, io::Result<()>)
     ensures { result.0 ≤ length buf.new }
 {
     let mut len = 0;
+    // Stays: a loop of its own, since std's `read_to_end` says nothing of the count on Err.
     while len < buf.len() {
         match from.read(&mut buf[len..]) {
             Ok(0) => break,
