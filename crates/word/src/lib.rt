@@ -52,7 +52,7 @@ pub fn read(
 
 // Reads until the input ends, buf is full or a read fails, and answers how many bytes came, and
 // whether no read failed.
-// Stays: a pair and no Result, since its clause holds of the count on Err too, which `reread` takes.
+// Stays: a pair and no Result: its clause holds of the count on Err too, and `reread` takes that.
 pub fn read_all(from: &mut impl Read, buf: &mut [u8]) -> (usize, io::Result<()>)
     ensures { result.0 ≤ length buf.new }
 {
