@@ -4,14 +4,14 @@
 // A tray is lent, of any length, and so is the number of a place: what is not there is left alone.
 #![tactic(auto)]
 
-ghost use Rattle.std.specs.Prelude.{◌≡◌, ◌-◌, ◌≤◌, length, replicate};
+ghost use Rattle.std.specs.Prelude.{◌≡◌};
 ghost use Rattle.numbers.specs.Numbers.{at1};
-ghost use Rattle.laying.specs.Laying.{laid_over};
 ghost use Rattle.tray.specs.Tray.{length_at, free, zeros, place_of, held_in, cleared_in};
 
 use layout::Numbers;
 
-#[derive(Clone, Copy)]
+// What is in a place. Stays: three cases of its own, of which a take answers 20, 21 or the numbers.
+#[derive(Clone, Copy, Debug, PartialEq, Eq)]
 pub enum Place {
     // The first two bytes are zero.
     Free,
@@ -25,35 +25,31 @@ pub enum Place {
 fn byte_at(tray: &[u8], i: usize) -> u8
     ensures { result ≡ at1 tray.now i }
 {
-    if i < tray.len() { tray[i] } else { 0 }
+    tray.get(i).copied().unwrap_or(0)
 }
 
 // The first two bytes of the place of desk q: the length of the sheet in it.
 pub fn length_at(tray: &[u8], q: u8) -> u16
     ensures { result ≡ length_at tray.now q }
 {
-    let at = 398 * (q as usize);
-    let low = byte_at(tray, at);
-    let high = byte_at(tray, at + 1);
-    u16::from_le_bytes([low, high])
+    let at = 398 * usize::from(q);
+    u16::from_le_bytes([byte_at(tray, at), byte_at(tray, at + 1)])
 }
 
 // "deliver counts it free if its first two bytes are zero".
 pub fn is_free(tray: &[u8], q: u8) -> bool
     ensures { result ≡ free tray.now q }
 {
-    let len = length_at(tray, q);
-    len == 0
+    length_at(tray, q) == 0
 }
 
+// All are looked at, so that the compiler can take many at a time.
 fn all_zeros(s: &[u8]) -> bool
     ensures { result ≡ zeros s.now }
 {
     let mut ok = true;
-    let mut i = 0;
-    while i < s.len() {
-        ok = ok & (s[i] == 0);
-        i += 1;
+    for &b in s {
+        ok &= b == 0;
     }
     ok
 }
@@ -62,37 +58,18 @@ fn all_zeros(s: &[u8]) -> bool
 pub fn look(tray: &[u8], q: u8) -> Place
     ensures { result ≡ place_of tray.now q }
 {
-    let len = length_at(tray, q) as usize;
+    let len = usize::from(length_at(tray, q));
     if len == 0 {
         return Place::Free;
     }
-    let at = 398 * (q as usize) + 2;
+    let at = 398 * usize::from(q) + 2;
     let end = at + 396;
-    if tray.len() < end {
+    if tray.len() < end || 396 < len || !all_zeros(&tray[at + len..end]) {
         return Place::Spoilt;
     }
-    if 396 < len {
-        return Place::Spoilt;
-    }
-    let past = at + len;
-    if !all_zeros(&tray[past..end]) {
-        return Place::Spoilt;
-    }
-    match sheet::read(&tray[at..past]) {
+    match sheet::read(&tray[at..at + len]) {
         Ok(numbers) => Place::Holds(numbers),
         Err(_) => Place::Spoilt,
-    }
-}
-
-// Zeros from `from` to `end`.
-fn put_zeros(tray: &mut [u8], from: usize, end: usize)
-    requires { (from ≤ end) × (end ≤ length tray.old) }
-    ensures { tray.new ≡ laid_over tray.old from (replicate (end - from) 0) }
-{
-    let mut i = from;
-    while i < end {
-        tray[i] = 0;
-        i += 1;
     }
 }
 
@@ -101,28 +78,21 @@ pub fn hold(tray: &mut [u8], q: u8, sheet: &[u8])
     ensures { tray.new ≡ held_in tray.old q sheet.now }
 {
     let len = sheet.len();
-    if 396 < len {
-        return;
-    }
-    let at = 398 * (q as usize);
+    let at = 398 * usize::from(q);
     let end = at + 398;
-    if tray.len() < end {
-        return;
+    if len <= 396 && end <= tray.len() {
+        laying::put(tray, at, &(len as u16).to_le_bytes());
+        laying::put(tray, at + 2, sheet);
+        tray[at + 2 + len..end].fill(0);
     }
-    let two = (len as u16).to_le_bytes();
-    laying::put(tray, at, &two);
-    laying::put(tray, at + 2, sheet);
-    put_zeros(tray, at + 2 + len, end);
 }
 
 // Makes the place of desk q zeros.
 pub fn clear(tray: &mut [u8], q: u8)
     ensures { tray.new ≡ cleared_in tray.old q }
 {
-    let at = 398 * (q as usize);
-    let end = at + 398;
-    if tray.len() < end {
-        return;
+    let at = 398 * usize::from(q);
+    if at + 398 <= tray.len() {
+        tray[at..at + 398].fill(0);
     }
-    put_zeros(tray, at, end);
 }

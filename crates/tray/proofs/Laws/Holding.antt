@@ -1,19 +1,22 @@
 -- Laws of `held_in` and `cleared_in` (specs/Tray.antt), as the code goes.
 --   place_long            a place has 398 bytes
 --   held_is, held_not     a sheet of up to 396 bytes is laid over its place, and a longer one is not
---   holds                 a set for `search`: what `hold` knows where it leaves the tray alone
+--   hold_too_long, hold_no_room       where `hold` leaves the tray alone
 --   hold_whole            what it laid, part by part, is the whole place
---   clears                a set for `search`: what `clear` knows at each of its returns, and what the tray then is
+--   zeros_laid            what `fill` leaves is zeros laid over the tray
+--   clear_no_room, clear_whole        what `clear` leaves
 -- Assumes nothing.
 use mathlib.Core.Path.{◌≡◌, sym, ap, ◌∙◌}
 use mathlib.Core.List.{List, ◌++◌}
 use Prim.Native.Nat.{ℕ, ◌+◌, ◌*◌, ◌-◌, ◌<◌, ◌≤◌}
 use native.Mathlib.Omega.{arith}
-use lib.ListN.{length, replicate, length-append, length-replicate}
+use lib.ListN.{length, take, drop, replicate, length-append, length-drop, length-replicate}
+use lib.Seq.{length-take-le}
+use borrow.Rule.Slice.PartMut.{put_mid}
 use borrow.Author.Tests.{le-leb, lt-leb}
 use Rattle.numbers.specs.Numbers.{bytes}
 use Rattle.laying.specs.Laying.{laid_over}
-use Rattle.laying.proofs.Laws.{no_room, laid_behind}
+use Rattle.laying.proofs.Laws.{copied, no_room, laid_behind}
 use Rattle.tray.specs.Tray.{place_start, place_bytes, held_in, cleared_in}
 
 -- ---- a sheet
@@ -61,9 +64,15 @@ module _ (tray : List ℕ) (q : ℕ) (s : List ℕ) where
         ∙ laid_behind tray at (head ++ s) tail (omega arith)
         ∙ sym (held_is few)
 
-pub ruleset holds = (hold_too_long, hold_no_room)
-
 -- ---- zeros
+
+-- a part of the tray that is filled with zeros
+pub zeros_laid : (b : List ℕ) (from k : ℕ) (zs : List ℕ) → from + k ≤ length b → (((y : ℕ) → y ≡ 0 → y ≡ 0) → zs ≡ replicate (length (take k (drop from b))) 0)
+    → put_mid from k b zs ≡ laid_over b from (replicate k 0)
+zeros_laid b from k zs room filled =
+    let all : length (take k (drop from b)) ≡ k = length-take-le k (drop from b) (omega (arith, length-drop from b)) in
+    ap (put_mid from k b) (filled (λ y e. e) ∙ ap (λ (n : ℕ). replicate n 0) all)
+    ∙ copied b from (replicate k 0) k (omega (arith, length-replicate {A = ℕ} k 0)) (sym (length-replicate k 0))
 
 module _ (tray : List ℕ) (q : ℕ) where
   pub clear_no_room : length tray < 398 * q + 398 → tray ≡ cleared_in tray q
@@ -73,5 +82,3 @@ module _ (tray : List ℕ) (q : ℕ) where
   pub clear_whole : (t : List ℕ) → t ≡ laid_over tray (398 * q) (replicate (398 * q + 398 - 398 * q) 0) → t ≡ cleared_in tray q
   unfolding cleared_in
   clear_whole t e = let all : 398 * q + 398 - 398 * q ≡ 398 = omega arith in e ∙ ap (λ (n : ℕ). laid_over tray (398 * q) (replicate n 0)) all
-
-pub ruleset clears = (clear_no_room, clear_whole)

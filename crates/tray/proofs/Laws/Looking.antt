@@ -1,17 +1,18 @@
 -- Laws of `free`, `holds_good` and `place_of` (specs/Tray.antt), as the code goes.
 --   no_byte                                   past the end there is no byte, and 0 says so
 --   place_free, place_holds, place_spoilt     what a look finds, by `free` and `holds_good` alone
---   BySheet, looks                            a set for `search`: what `look` knows before it reads the sheet, and what it answers, or that the sheet decides
+--   look_free, look_short, look_long, look_not_zeros     what `look` answers before it reads the sheet
+--   BySheet, look_on                          that the sheet decides
 --   look_holds, look_refused                  what it answers when the sheet was read
 -- Assumes nothing.
 use mathlib.Core.Path.{◌≡◌, sym, ap, ◌∙◌, subst}
 use mathlib.Core.List.{List}
-use mathlib.Core.Bool.{Bool, true, false, not, ◌&&◌, and-true, and-false}
+use mathlib.Core.Bool.{Bool, true, false, ◌&&◌, and-true, and-false}
 use Prim.Native.Nat.{ℕ, ◌+◌, ◌*◌, ◌-◌, ◌<◌, ◌≤◌}
 use native.Mathlib.Omega.{arith}
 use lib.Dec.{leb}
 use lib.ListN.{length, take, drop, get_or-eq_default}
-use borrow.Author.Tests.{le-leb, lt-leb, eq-eqb, ne_eqb, not-true, not-false}
+use borrow.Author.Tests.{le-leb, lt-leb, eq-eqb, ne_eqb}
 use Rattle.layout.specs.declared.Numbers.{Numbers}
 use Rattle.numbers.specs.Numbers.{at1}
 use Rattle.layout.specs.Layout.{trailer_in, numbers_of}
@@ -82,15 +83,15 @@ module _ (tray : List ℕ) (q len : ℕ) (is : len ≡ length_at tray q) where
         unfolding holds_good
         by_sheet = rw (has, le-leb (length_at tray q) 396 (omega (arith, is)), rest_is)
 
-        pub look_not_zeros : not z ≡ true → place.Spoilt ≡ place_of tray q
-        look_not_zeros off = spoilt (by_sheet ∙ rw (not-true z off) (and-false (good (sheet_at tray q))))
+        pub look_not_zeros : z ≡ false → place.Spoilt ≡ place_of tray q
+        look_not_zeros off = spoilt (by_sheet ∙ rw off (and-false (good (sheet_at tray q))))
 
-        pub look_on : not z ≡ false → BySheet tray q len
+        pub look_on : z ≡ true → BySheet tray q len
         look_on on =
             record {
               length_is = is;
               not_free = not_free;
-              by_good = by_sheet ∙ rw (not-false z on) (and-true (good (sheet_at tray q)));
+              by_good = by_sheet ∙ rw on (and-true (good (sheet_at tray q)));
             }
 
 module _ (tray : List ℕ) (q len : ℕ) (so : BySheet tray q len) (r : Result Numbers Refusal) (said_answer : said_read (take (398 * q + 2 + len - (398 * q + 2)) (drop (398 * q + 2) tray)) r ≡ reading_of (take (398 * q + 2 + len - (398 * q + 2)) (drop (398 * q + 2) tray))) where
@@ -109,5 +110,3 @@ module _ (tray : List ℕ) (q len : ℕ) (so : BySheet tray q len) (r : Result N
 
   pub look_refused : (x : Refusal) → r ≡ Err x → place.Spoilt ≡ place_of tray q
   look_refused x e = sym (place_spoilt tray q so.not_free (so.by_good ∙ said_bad (sheet_at tray q) r x e is_said))
-
-pub ruleset looks = (look_free, look_short, look_long, look_not_zeros, look_on)

@@ -1,11 +1,12 @@
--- `clear` meets its contract: each return is one of the laws `clears`.
+-- `clear` meets its contract.
 -- Assumes nothing.
-use borrow.Author.Rules.{rules}
-use Rattle.tray.proofs.Laws.Holding.{clears}
+use Rattle.std.proofs.Common.{arith}
+use Rattle.tray.proofs.Laws.Holding.{zeros_laid, clear_no_room, clear_whole}
 use Rattle.tray.proofs.clear.Goals as goal
 
-pub returns-then-tray-end : goal.returns-then-tray-end
-returns-then-tray-end c = search (clears, rules)
+pub returns-then-at-tray : goal.returns-then-at-tray
+returns-then-at-tray c =
+    rw c.from-at.ensures (clear_whole _ _ _ (zeros_laid _ _ _ _ (omega (arith, c.from-at.ensures)) (rw c.from-at.ensures at c.fill.ensures.after)))
 
-pub returns : goal.returns
-returns c = search (clears, rules)
+pub returns-else-at-tray : goal.returns-else-at-tray
+returns-else-at-tray c = clear_no_room _ _ (rw c.from-at.ensures at c.if-at-tray.false)
