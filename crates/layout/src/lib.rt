@@ -109,19 +109,3 @@ impl From<Numbers> for Trailer {
         }
     }
 }
-
-impl Trailer {
-    pub fn numbers(self) -> Numbers
-        ensures { result ≡ numbers_of self }
-    {
-        self.into()
-    }
-}
-
-impl Numbers {
-    pub fn trailer(self) -> Trailer
-        ensures { result ≡ trailer_for self }
-    {
-        self.into()
-    }
-}
