@@ -9,15 +9,13 @@ pub fn put_decimal(buf: &mut [u8], at: usize, k: u32) -> usize
     ensures buf_after { buf.new ≡ laid_over buf.old at (decimal k) }
     ensures value { result ≡ length (decimal k) }
 {
-    let mut digits = [48u8; 10];
+    let count = k.max(1).ilog10() as usize + 1;
+    let mut digits = [b'0'; 10];
     let mut left = k;
-    let mut i: usize = 9;
-    while 10 <= left {
-        digits[i] = 48 + (left % 10) as u8;
-        left = left / 10;
-        i -= 1;
+    for i in (0..count).rev() {
+        digits[i] = b'0' + (left % 10) as u8;
+        left /= 10;
     }
-    digits[i] = 48 + left as u8;
-    laying::put(buf, at, &digits[i..10]);
-    10 - i
+    laying::put(buf, at, &digits[..count]);
+    count
 }

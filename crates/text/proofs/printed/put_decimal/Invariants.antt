@@ -3,8 +3,5 @@
 use Rattle.text.proofs.Laws.Printed.{PrintedSoFar}
 use Rattle.text.proofs.printed.put_decimal.Given as goal
 
-abbrev pub invariant-loop-left : goal.invariant-loop-left
-invariant-loop-left l = PrintedSoFar l.k l.digits l.left l.i
-
-abbrev pub decreases-loop-left : goal.decreases-loop-left
-decreases-loop-left l = l.left
+abbrev pub invariant-loop-i : goal.invariant-loop-i
+invariant-loop-i l = PrintedSoFar l.k l.count l.digits l.left l.i
