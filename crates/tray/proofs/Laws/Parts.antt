@@ -14,7 +14,8 @@ use lib.ListN.{length, get_or, take, drop, length-append, length-drop, take-appe
 use lib.Seq.{length-take-le, take-append-le, take_at, drop-append-le, drop-append-add, drop_at, drop-drop, take-take, get_or-take, get_or-drop}
 use borrow.Author.Tests.{leb-true, leb-false}
 use Rattle.laying.specs.Laying.{laid_over}
-use Rattle.laying.proofs.Laws.{drop_take, laid, no_room}
+use Rattle.std.proofs.lemmas.List.{drop-take}
+use Rattle.laying.proofs.Laws.{laid, no_room}
 
 -- ---- parts of parts
 
@@ -23,7 +24,7 @@ module _ (l : List ℕ) (size from i : ℕ) where
   part_of m h =
       let whole : i + (size - i) ≡ size = omega arith in
       ap (λ (n : ℕ). take m (drop i (take n (drop from l)))) (sym whole)
-      ∙ ap (take m) (drop_take i (size - i) (drop from l))
+      ∙ ap (take m) (drop-take i (size - i) (drop from l))
       ∙ take-take m (size - i) (drop i (drop from l)) (omega arith)
       ∙ ap (take m) (drop-drop i from l)
 

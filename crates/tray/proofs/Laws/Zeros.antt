@@ -1,7 +1,6 @@
--- Laws of zeros: of `zeros` (specs/Tray.antt), and of zeros laid over a tray.
+-- Laws of `zeros` (specs/Tray.antt).
 --   ZerosSoFar, zeros_begun, zeros_turned, zeros_ended              the loop that looks for a byte that is none
---   ClearedSoFar, cleared_begun, cleared_turned, cleared_ended      the loop that lays them: `PutSoFar` of the laying's laws
---   zeros_found, zeros_laid                                         the two loops' laws as sets for `search`
+--   zeros_found                                                     the loop's laws as a set for `search`
 --   zeros_are                                                       zeros are zeros
 -- Assumes nothing.
 use mathlib.Core.Path.{◌≡◌, refl, sym, ap, ◌∙◌}
