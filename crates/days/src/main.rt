@@ -106,7 +106,7 @@ impl Walk {
 fn days_that_differ() -> u64 {
     let mut differ = 0;
     let mut walk = START;
-    for i in 0..109209u32 {
+    for _ in 0..109209u32 {
         differ += u64::from(walk.date_differs()) + u64::from(walk.number_differs(walk.date));
         walk = walk.step();
     }

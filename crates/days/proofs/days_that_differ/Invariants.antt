@@ -3,5 +3,5 @@
 use Prim.Native.Nat.{◌≤◌, ◌*◌}
 use Rattle.days.proofs.days_that_differ.Given as goal
 
-abbrev pub invariant-loop-i : goal.invariant-loop-i
-invariant-loop-i l = (l.differ ≤ 2 * l.i) × (l.i ≤ 109209)
+abbrev pub invariant-loop : goal.invariant-loop
+invariant-loop l = (l.differ ≤ 2 * l.counter) × (l.counter ≤ 109209)
