@@ -1,8 +1,7 @@
--- `say_records` is safe and ends: each record moves on in the input.
+-- `say_records` ends: each record leaves less of the input.
 -- Assumes nothing.
-use Prim.Native.Nat.{◌-◌}
 use lib.ListN.{length}
 use Rattle.reread.proofs.say_records.Given as goal
 
-abbrev pub decreases-loop-at : goal.decreases-loop-at
-decreases-loop-at g l = length l.input - l.at
+abbrev pub decreases-loop-record : goal.decreases-loop-record
+decreases-loop-record g l = length l.rest
