@@ -1,7 +1,6 @@
 // The clauses of "A sheet is good if", of its trailer and of its entries.
 ghost use Rattle.std.specs.Prelude.{◌≡◌, map};
-ghost use Rattle.layout.specs.Values.{DaysFit};
-ghost use Rattle.sheet.specs.Clauses.{good_trailer, good_entry, good_entries, good_entries_in};
+ghost use Rattle.sheet.specs.Clauses.{good_trailer, good_entry, good_entries, good_entries_in, in_32_bits};
 
 use crate::AsEntry;
 use layout::{Entry, Trailer};
@@ -26,22 +25,24 @@ pub fn good_trailer(t: Trailer, back: usize) -> bool
 pub fn good_entry(cells: u8, least: u32, e: Entry) -> bool
     ensures { result ≡ good_entry cells least e }
 {
-    least <= u32::from(e.cell) && e.cell < cells && ((e.kind == 1 && e.day == 0) || e.kind == 2)
+    least <= u32::from(e.cell) && e.cell < cells && (e.kind == 2 || (e.kind == 1 && e.day == 0))
 }
 
-// Entries of a sheet with so many cells, given or read, each looked at once.
+// Entries of a sheet with so many cells, given or read, each looked at once, up to the first that is
+// not good. Their days have 32 bits, so they are as good as they are on the line.
 pub fn all_good<E: AsEntry + Copy>(es: &[E], cells: u8) -> bool
     ensures clauses { result ≡ good_entries cells (map E.read_as es.now) }
-    ensures days { DaysFit (map E.read_as es.now) }
+    ensures on_the_line { result ≡ good_entries cells (map in_32_bits (map E.read_as es.now)) }
 {
-    let mut good = true;
     let mut least = 0;
     for e in es {
         let e = e.as_entry();
-        good &= good_entry(cells, least, e);
+        if !good_entry(cells, least, e) {
+            return false;
+        }
         least = u32::from(e.cell) + 1;
     }
-    good
+    true
 }
 
 // The first n entries of bytes; none is where the bytes end before them.

@@ -1,6 +1,7 @@
 -- Laws of `good` (specs/Good.antt) and of its parts (specs/Parts.antt).
 --   SoFar, begun, turned, ended              a loop over entries, wherever they stand
---   TestedSoFar, tested_begun, tested_turned, tested_ended        the same, and that their days have 32 bits; mapped
+--   goes_on, stops                           a loop that stops where an entry is not good
+--   mapped, same_in_32                       what entries are read from, and as they are on the line
 --   sixes_good                               the first entries of bytes, as the code cuts them
 --   good_is, too_short_is_bad                good is its two parts; fewer than 12 bytes are no sheet
 --   fair_trailer                             a good trailer's clauses as facts
@@ -9,7 +10,7 @@
 --   sheet_bad, sheet_good                    the bytes of values are good exactly if the values are
 --   open_or_day                              contents in entries
 -- Assumes nothing.
-use mathlib.Core.Path.{◌≡◌, refl, sym, ap, ◌∙◌}
+use mathlib.Core.Path.{subst, ◌≡◌, refl, sym, ap, ◌∙◌}
 use mathlib.Core.List.{List, [], ◌∷◌, ◌++◌}
 use mathlib.Core.Bool.{Bool, true, false, ◌&&◌, and-true, and_assoc, or-false, false≢true}
 use Prim.Native.Nat.{ℕ, zero, suc, ◌+◌, ◌*◌, ◌/◌, ◌-◌, ◌%◌, ◌<◌, ◌≤◌}
@@ -17,7 +18,7 @@ use native.Mathlib.Omega.{arith}
 use native.Mathlib.Numerals.{add-one}
 use lib.ListN.{length, get_or, take, drop, drop_of_length-le}
 use Rattle.std.proofs.lemmas.List.{get_or-map}
-use lib.Seq.{drop-cons, take-suc, take_all}
+use lib.Seq.{drop-cons, take-suc}
 use lib.Dec.{eqb, leb, ltb}
 use borrow.Author.Tests.{le-leb, lt-leb, eqb-true, leb-true, leb-false}
 use mir.Syntax.{w32}
@@ -33,10 +34,10 @@ use Rattle.numbers.specs.Limits.{desks_within, cells_within}
 use Rattle.numbers.proofs.Tests.{and_split, tested}
 use Rattle.sheet.specs.Good.{every, next_above, rising, below, kind_and_day, good}
 use Rattle.sheet.specs.Promises.{OpenOrDay, is_open, is_day}
-use Rattle.layout.specs.Values.{DaysFit, no_days, a_day}
+use Rattle.layout.specs.Values.{DaysFit}
 use Rattle.sheet.specs.Reading.{no_entry}
 use Rattle.sheet.specs.Promises.{GoodWithin}
-use Rattle.sheet.specs.Clauses.{good_trailer, good_entry, good_entries, good_entries_in}
+use Rattle.sheet.specs.Clauses.{good_trailer, good_entry, good_entries, good_entries_in, in_32_bits}
 use Rattle.sheet.proofs.Laws.Bools.{in_any_order}
 use Rattle.layout.proofs.Laws.{entries_count, sheet_length, TrailerFits, entries_back, trailer_back}
 
@@ -97,34 +98,25 @@ module _ (es : List Entry) (cells : ℕ) where
 pub one_more : (es : List Entry) (i : ℕ) → i < length es → take (i + 1) es ≡ take i es ++ (get_or es i no_entry ∷ [])
 one_more es i h = rw add-one (take-suc es i no_entry h)
 
-days_append : {es : List Entry} → DaysFit es → (e : Entry) → e.day < 4294967296 → DaysFit (es ++ (e ∷ []))
-days_append no_days e h = a_day h no_days
-days_append (a_day k f) e h = a_day k (days_append f e h)
-
 -- an element of what entries are read from
 pub mapped : {X : Type 0} (f : X → Entry) (xs : List X) (i : ℕ) (x : X) → x ≡ get_or xs i x → i < length xs → f x ≡ get_or (map f xs) i no_entry
 mapped f xs i x is h = ap f is ∙ sym (get_or-map f xs i x no_entry h)
 
--- the same, and that their days have 32 bits
-pub record TestedSoFar (es : List Entry) (cells : ℕ) (ok : Bool) (least i : ℕ) : Type 0 where
-  pub tested : SoFar es cells ok least i
-  pub days : DaysFit (take i es)
+-- a loop that stops where an entry is not good
+module _ (es : List Entry) (cells least i : ℕ) (so : SoFar es cells true least i) where
+  module _ (h : i < length es) (e : Entry) (is : e ≡ get_or es i no_entry) (g : Bool) (test : g ≡ good_entry cells least e) where
+    pub goes_on : g ≡ true → (c : ℕ) → c ≡ e.cell → SoFar es cells true (c + 1) (i + 1)
+    goes_on on c cell = subst (λ (t : Bool). SoFar es cells t (c + 1) (i + 1)) on (turned es cells true least i so h e g is test c cell)
 
-module _ (es : List Entry) (cells : ℕ) where
-  pub tested_begun : TestedSoFar es cells true 0 0
-  tested_begun = record { tested = begun es cells; days = no_days }
+    pub stops : g ≡ false → false ≡ good_entries cells es
+    stops off = sym ((turned es cells true least i so h e g is test e.cell refl).whole ∙ rw off refl)
 
-  module _ (ok : Bool) (least i : ℕ) (so : TestedSoFar es cells ok least i) where
-    pub tested_turned : i < length es → (e : Entry) → e ≡ get_or es i no_entry → (g : Bool) → g ≡ good_entry cells least e → e.day < 4294967296
-        → (c : ℕ) → c ≡ e.cell → TestedSoFar es cells (ok && g) (c + 1) (i + 1)
-    tested_turned h e is g test day c cell =
-        record {
-          tested = turned es cells ok least i so.tested h e g is test c cell;
-          days = rw (one_more es i h, ← is) (days_append so.days e day);
-        }
+-- an entry whose day has 32 bits, and where it stands
+pub same_in_32 : (e : Entry) → e.day < 4294967296 → in_32_bits e ≡ e
+same_in_32 e h = let day : e.day % 4294967296 ≡ e.day = omega arith in ap (λ (d : ℕ). record { cell = e.cell; kind = e.kind; day = d }) day
 
-    pub tested_ended : length es ≤ i → (ok ≡ good_entries cells es) × DaysFit es
-    tested_ended h = (ended es cells ok least i so.tested h, rw (take_all i es h) at so.days)
+pub there_in_32 : (es : List Entry) (i : ℕ) (e : Entry) → e ≡ get_or es i no_entry → e.day < 4294967296 → i < length es → e ≡ get_or (map in_32_bits es) i no_entry
+there_in_32 es i e is day h = sym (get_or-map in_32_bits es i no_entry no_entry h ∙ ap in_32_bits (sym is) ∙ same_in_32 e day)
 
 -- ---- the first n entries of bytes, in sixes
 

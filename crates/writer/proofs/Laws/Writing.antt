@@ -3,10 +3,10 @@
 --   write_too_few, write_bad_trailer, write_bad_entries, write_too_short, write_whole      what it leaves and answers at each of its returns
 --   refused_writes_nothing : RefusedWritesNothing, said_written_tells_apart : WritingsApart (specs/Promises.antt)
 -- Assumes nothing.
-use mathlib.Core.Path.{subst, ◌≡◌, refl, sym, ap, ◌∙◌}
-use mathlib.Core.List.{List, ◌++◌, map}
+use mathlib.Core.Path.{◌≡◌, refl, sym, ap, ◌∙◌}
+use mathlib.Core.List.{List, [], ◌∷◌, ◌++◌, map}
 use mathlib.Core.Bool.{Bool, true, false, not}
-use Prim.Native.Nat.{ℕ, ◌+◌, ◌-◌, ◌*◌, ◌<◌, ◌≤◌}
+use Prim.Native.Nat.{ℕ, ◌+◌, ◌*◌, ◌-◌, ◌/◌, ◌%◌, ◌<◌, ◌≤◌}
 use native.Mathlib.Omega.{arith}
 use lib.ListN.{length, take, drop, length-take}
 use lib.Dec.{ltb}
@@ -17,12 +17,13 @@ use Rattle.layout.specs.declared.Numbers.{Numbers}
 use Rattle.layout.specs.declared.Trailer.{Trailer}
 use Rattle.layout.specs.Layout.{entries_bytes, sheet_bytes, trailer_bytes, trailer_for, sheet_for}
 use Rattle.sheet.specs.Good.{good}
-use Rattle.sheet.specs.Clauses.{good_trailer, good_entries}
-use Rattle.layout.specs.Values.{NumbersFit, DaysFit}
+use Rattle.sheet.specs.Clauses.{good_trailer, good_entries, in_32_bits}
+use Rattle.layout.specs.Values.{NumbersFit, DaysFit, no_days, a_day}
 use Rattle.layout.proofs.Laws.{TrailerFits, entries_length, sheet_length}
 use Rattle.sheet.proofs.Laws.Good.{fair_trailer, sheet_bad, sheet_good}
 use Rattle.std.specs.Prelude.{Result, Ok, Err, slice_range}
-use Rattle.std.proofs.lemmas.List.{map-id}
+use Rattle.std.proofs.lemmas.List.{map-id, length-map}
+use Rattle.numbers.specs.Numbers.{bytes}
 use Rattle.answer.specs.declared.Refusal.{Refusal}
 use Rattle.answer.specs.Refusals.{refused_when}
 use Rattle.answer.specs.declared.Refusal.TheVariants as refusal
@@ -71,6 +72,25 @@ first_of n es part k is cut long =
     let none : k - 0 ≡ k = omega arith in
     record { are = cut ∙ rw (none, is); count = omega arith }
 
+-- given entries, and as they are on the line: the same bytes
+same_day : (d : ℕ) → bytes 4 (d % 4294967296) ≡ bytes 4 d
+same_day d =
+    let a : d % 4294967296 % 256 ≡ d % 256 = omega arith in
+    let b : d % 4294967296 / 256 % 256 ≡ d / 256 % 256 = omega arith in
+    let c : d % 4294967296 / 256 / 256 % 256 ≡ d / 256 / 256 % 256 = omega arith in
+    let e : d % 4294967296 / 256 / 256 / 256 % 256 ≡ d / 256 / 256 / 256 % 256 = omega arith in
+    rw (a, b, c, e)
+
+same_bytes : (es : List Entry) → entries_bytes (map in_32_bits es) ≡ entries_bytes es
+same_bytes [] = refl
+same_bytes (e ∷ es) =
+    ap (λ (l : List ℕ). (e.cell ∷ e.kind ∷ l) ++ entries_bytes (map in_32_bits es)) (same_day e.day)
+    ∙ ap (λ (l : List ℕ). (e.cell ∷ e.kind ∷ bytes 4 e.day) ++ l) (same_bytes es)
+
+days_fit : (es : List Entry) → DaysFit (map in_32_bits es)
+days_fit [] = no_days
+days_fit (e ∷ es) = a_day (omega arith) (days_fit es)
+
 -- what `write` knows of a test of its own: that it does not apply, or that it does
 abbrev went_on : Refusal → Bool → Type 0
 went_on refusal applies = Ok (tt {0}) ≡ refused_when refusal applies
@@ -107,14 +127,19 @@ module _ (n : Numbers) (es : List Entry) (b : List ℕ) (fit : NumbersFit n) whe
       write_bad_trailer x off r e =
           refuses (not g) (λ bad. ap (λ (l : List Entry). good (sheet_bytes l (trailer_for n))) (sym first.are) ∙ sheet_bad part (trailer_for n) (trailer_fits n fit) (same_test ∙ not-true g bad)) x off r e
 
-      module _ (fair : went_on refusal.SheetNotGood (not g)) (ok : Bool) (clauses : ok ≡ good_entries n.cells (map (λ (e : Entry). e) part)) (days : DaysFit (map (λ (e : Entry). e) part)) where
+      module _ (fair : went_on refusal.SheetNotGood (not g)) (ok : Bool) (on_the_line : ok ≡ good_entries n.cells (map in_32_bits (map (λ (e : Entry). e) part))) where
+        line : List Entry
+        line = map in_32_bits part
+
         good_is_ok : good (sheet_for n es) ≡ ok
-        unfolding sheet_for
+        unfolding sheet_for line
         good_is_ok =
+            let long : length line ≡ length part = length-map part in_32_bits in
             ap (λ (l : List Entry). good (sheet_bytes l (trailer_for n))) (sym first.are)
-            ∙ sheet_good part (trailer_for n) (trailer_fits n fit) (subst DaysFit (map-id part) days) (sym first.count)
-            (same_test ∙ not-false g (when_went_on refusal.SheetNotGood (not g) fair))
-            ∙ sym (clauses ∙ ap (good_entries n.cells) (map-id part))
+            ∙ ap (λ (l : List ℕ). good (l ++ trailer_bytes (trailer_for n))) (sym (same_bytes part))
+            ∙ sheet_good line (trailer_for n) (trailer_fits n fit) (days_fit part) (sym (long ∙ first.count))
+            (ap (λ (k : ℕ). good_trailer (trailer_for n) (6 * k)) long ∙ same_test ∙ not-false g (when_went_on refusal.SheetNotGood (not g) fair))
+            ∙ sym (on_the_line ∙ ap (λ (l : List Entry). good_entries n.cells (map in_32_bits l)) (map-id part))
 
         pub write_bad_entries : (x : Refusal) → stopped refusal.SheetNotGood (not ok) x → (r : Result ℕ Refusal) → r ≡ Err x → Writes n es b r b
         write_bad_entries x off r e = refuses (not ok) (λ bad. good_is_ok ∙ not-true ok bad) x off r e
