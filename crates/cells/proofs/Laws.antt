@@ -14,7 +14,6 @@ use native.Mathlib.Omega.{arith}
 use native.Mathlib.Nat.{not-suc-le-zero}
 use native.Mathlib.Numerals.{add-one}
 use lib.Dec.{eqb, ltb}
-use lib.IntN.{ℤ}
 use mir.Syntax.{w8}
 use mir.Val.{Fits}
 use lib.ListN.{length, get_or, set, length-set}
@@ -24,9 +23,7 @@ use Rattle.std.proofs.Common.{Bor, Option}
 use Rattle.std.proofs.lemmas.List.{get_or_past}
 use Rattle.std.specs.Option.{unwrap_or, option_copied}
 use Rattle.std.specs.Slice.{IsItemAt}
-use Rattle.content.specs.declared.Content.{Content}
-use Rattle.content.specs.Content.{content_of}
-use Rattle.cells.specs.Cells.{place_at, kind_at, day_at, content_at, filled, put_if, each, anywhere, count}
+use Rattle.cells.specs.Cells.{place_at, filled, put_if, each, anywhere, count}
 
 -- ---- one place, as the code reads and puts it
 
@@ -67,10 +64,6 @@ module _ {A : Type 0} (l : List A) (i : ℕ) (x : A) where
   pub put_not : {on : Bool} → ((on ≡ true) × (64 ≤ i)) ⊎ (on ≡ false) → l ≡ put_if on l i x
   put_not (inl h) = put_past h.0 h.1
   put_not (inr h) = put_off h
-
-pub content_of_lem : (kinds : List ℕ) (days : List ℤ) (i : ℕ) {kind : ℕ} {day : ℤ} {c : Content}
-    → c ≡ content_of kind day → kind ≡ kind_at kinds i → day ≡ day_at days i → c ≡ content_at kinds days i
-content_of_lem kinds days i c k d = rw (c, k, d)
 
 pub ruleset places = (put_on, put_not)
 

@@ -39,6 +39,7 @@ impl<'a> Places<'a> {
     }
 
     // Whether any of the places is filled.
+    #[tactic(auto, using(crate::proofs::Laws::scans))]
     pub fn any_filled(self) -> bool
         ensures { result ≡ anywhere 64 (filled self.entry.kinds.now) }
     {
@@ -50,6 +51,7 @@ impl<'a> Places<'a> {
     }
 
     // How many of the places are filled.
+    #[tactic(auto, using(crate::proofs::Laws::scans))]
     pub fn count_filled(self) -> u8
         ensures { result ≡ count 64 (filled self.entry.kinds.now) }
     {
@@ -62,6 +64,7 @@ impl<'a> Places<'a> {
 }
 
 // Puts x into place i of an array of kinds or of days, where `on` holds.
+#[tactic(auto, using(crate::proofs::Laws::places))]
 pub fn put<T: Copy>(places: &mut [T; 64], on: bool, i: usize, x: T)
     ensures { places.new ≡ put_if on places.old i x }
 {

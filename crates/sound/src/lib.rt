@@ -136,6 +136,7 @@ fn all_days_agree<'a>(days: &'a [i32; 64], pkinds: &'a [u8; 64], pdays: &'a [i32
 
 // The clauses on the days of pending places. Where pending and shelf content agree, a shelf's day
 // that fits is a pending one's that fits: one loop serves both clauses.
+#[tactic(auto, using(crate::proofs::Laws::Clauses::answers))]
 fn pending_days_fit(causal: bool, shelf: Places, pending: Places) -> bool
     ensures { result ≡ pending_days causal shelf.entry.days.now pending.entry.kinds.now pending.entry.days.now }
 {
@@ -147,6 +148,7 @@ fn pending_days_fit(causal: bool, shelf: Places, pending: Places) -> bool
 }
 
 // Whether a record is sound: `sound_of` of its head, its shelf and its pending entries.
+#[tactic(auto, using(crate::proofs::Laws::Clauses::answers))]
 pub fn is_sound(h: Head, shelf: Places, pending: Places) -> bool
     ensures { result ≡ sound_of h shelf.entry.kinds.now shelf.entry.days.now pending.entry.kinds.now pending.entry.days.now }
 {
