@@ -1,6 +1,6 @@
 // One pass through a whole book, from its end: whether it is good, how many sheets it has, and the
 // newest one's numbers.
-ghost use Rattle.std.specs.Prelude.{◌≡◌, ◌≤◌, length, take};
+ghost use Rattle.std.specs.Prelude.{◌≡◌};
 ghost use Rattle.book.specs.Sheets.{sheets_of};
 ghost use Rattle.book.specs.Parts.{fits_before, older_of, examined_of, takes_next};
 
@@ -24,29 +24,28 @@ pub(crate) fn examine(book: &[u8]) -> Result<Option<Seen>, Refusal>
         return Ok(None);
     }
     let last = crate::step_back(book, book.len()).ok_or(Refusal::BookNotGood)?;
-    let older = sheets_before(book, last.start, last.numbers).ok_or(Refusal::BookNotGood)?;
+    let older = sheets_before(&book[..last.start], last.numbers).ok_or(Refusal::BookNotGood)?;
     Ok(Some(Seen {
         sheets: older + 1,
         newest: last.numbers,
     }))
 }
 
-// The sheets before a place, where a sheet with the newest's numbers starts: each is looked at
-// once. None where they are not good.
+// The sheets in what stands before a sheet with the newest's numbers: each is looked at once. None
+// where they are not good.
 #[tactic(auto, using(crate::proofs::Laws::Examining::olders))]
-fn sheets_before(book: &[u8], place: usize, newest: Numbers) -> Option<usize>
-    requires { place ≤ length book.now }
-    ensures { result ≡ older_of newest newest.turn (sheets_of (take place book.now)) }
+fn sheets_before(before: &[u8], newest: Numbers) -> Option<usize>
+    ensures { result ≡ older_of newest newest.turn (sheets_of before.now) }
 {
-    let mut at = place;
+    let mut rest = before;
     let mut turn = newest.turn;
     let mut sheets = 0;
-    while 0 < at {
-        let Back { start, numbers, .. } = inside::tested_back(book, at)?;
+    while !rest.is_empty() {
+        let Back { start, numbers, .. } = inside::tested_back(rest)?;
         if !fits_before(numbers, newest, turn) {
             return None;
         }
-        at = start;
+        rest = &rest[..start];
         turn = numbers.turn;
         sheets += 1;
     }

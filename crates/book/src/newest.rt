@@ -17,7 +17,7 @@ pub(crate) fn entry(book: &[u8], cell: u8) -> Option<Found>
     requires { every_sheet good (sheets_of book.now) ≡ true }
     ensures { result ≡ found_of (newest cell (sheets_of book.now)) }
 {
-    let mut place = book.len();
+    let mut rest = book;
     loop {
         let Some(
             Back {
@@ -25,17 +25,17 @@ pub(crate) fn entry(book: &[u8], cell: u8) -> Option<Found>
                 end,
                 numbers,
             },
-        ) = inside::known_back(book, place)
+        ) = inside::known_back(rest)
         else {
             return None;
         };
-        if let Some(e) = entry_on(&book[start..end], numbers.entries, cell) {
+        if let Some(e) = entry_on(&rest[start..end], numbers.entries, cell) {
             return Some(Found {
                 content: e.content(),
                 turn: numbers.turn,
             });
         }
-        place = start;
+        rest = &rest[..start];
     }
 }
 

@@ -3,13 +3,13 @@
 --   OlderSoFar, olders             the loop over the sheets before a place: what was looked at so far, and the rest, is the whole; a set for `search`
 --   examines                       a set for `search`: what the pass knows at each of its returns, and what it answers
 -- Assumes nothing.
-use mathlib.Core.Path.{◌≡◌, refl, sym, ap, ◌∙◌, subst}
+use mathlib.Core.Path.{◌≡◌, refl, sym, ap, ◌∙◌}
 use mathlib.Core.Bool.{Bool, true, false, not, ◌&&◌}
 use mathlib.Core.List.{List, [], ◌∷◌}
 use Prim.Native.Nat.{ℕ, suc, ◌+◌, ◌<◌, ◌≤◌}
 use native.Mathlib.Omega.{arith}
 use lib.ListN.{length, take}
-use lib.Seq.{take-length, length-take-le}
+use lib.Seq.{length-take-le}
 use mir.Syntax.{w64}
 use mir.Val.{Fits}
 use borrow.Author.Tests.{not-true, not-false}
@@ -18,7 +18,6 @@ use Rattle.std.proofs.lemmas.Option.{none-some, cond_some}
 use Rattle.answer.specs.declared.Refusal.{Refusal}
 use Rattle.answer.specs.declared.Refusal.TheVariants as refusal
 use Rattle.layout.specs.declared.Numbers.{Numbers}
-use Rattle.sheet.specs.Good.{good}
 use Rattle.book.specs.declared.Back.{Back}
 use Rattle.book.specs.declared.examined.Seen.{Seen}
 use Rattle.book.specs.Sheets.{last_sheet, before, sheets_of}
@@ -27,78 +26,78 @@ use Rattle.book.specs.Stepping.{part_of, step_back}
 use Rattle.book.specs.Parts.{fits_before, good_before, older_of, examined_of}
 use Rattle.book.proofs.Laws.Sheets.{sheets_none, sheets_cut, sheets_few}
 use Rattle.book.proofs.Laws.Good.{good_is_before}
-use Rattle.book.proofs.Laws.Stepping.{Stepped, stepped, stepped_none}
+use Rattle.book.proofs.Laws.Stepping.{Stepped, stepped, sheets_end, none_end}
 
--- ---- the sheets before a place
+-- ---- the sheets before a sheet
 
-pub record OlderSoFar (b : List ℕ) (place : ℕ) (newest : Numbers) (at turn sheets : ℕ) : Type 0 where
-  pub within : place ≤ length b
-  pub few : sheets + at ≤ place
-  pub rest : good_before newest newest.turn (sheets_of (take place b)) ≡ good_before newest turn (sheets_of (take at b))
-  pub count : length (sheets_of (take place b)) ≡ sheets + length (sheets_of (take at b))
+pub record OlderSoFar (b : List ℕ) (newest : Numbers) (rest : List ℕ) (turn sheets : ℕ) : Type 0 where
+  pub few : sheets + length rest ≤ length b
+  pub same : good_before newest newest.turn (sheets_of b) ≡ good_before newest turn (sheets_of rest)
+  pub count : length (sheets_of b) ≡ sheets + length (sheets_of rest)
 
-module _ (b : List ℕ) (place : ℕ) (newest : Numbers) where
+module _ (b : List ℕ) (newest : Numbers) where
   abbrev whole : Option ℕ
-  whole = older_of newest newest.turn (sheets_of (take place b))
+  whole = older_of newest newest.turn (sheets_of b)
 
-  pub older_begun : place ≤ length b → OlderSoFar b place newest place newest.turn 0
-  older_begun h = record { within = h; few = omega arith; rest = refl; count = omega arith }
+  pub older_begun : OlderSoFar b newest b newest.turn 0
+  older_begun = record { few = omega arith; same = refl; count = omega arith }
 
-  module _ {at turn sheets : ℕ} (so : OlderSoFar b place newest at turn sheets) where
-    pub older_within : at ≤ length b
-    older_within = omega (arith, so.few, so.within)
+  module _ {rest : List ℕ} {turn sheets : ℕ} (so : OlderSoFar b newest rest turn sheets) where
+    older_bad : good_before newest turn (sheets_of rest) ≡ false → None ≡ whole
+    older_bad g = rw (so.same, g)
 
-    older_bad : good_before newest turn (sheets_of (take at b)) ≡ false → None ≡ whole
-    older_bad g = rw (so.rest, g)
-
-    pub older_ended : at ≤ 0 → Some sheets ≡ whole
+    pub older_ended : length rest ≡ 0 → Some sheets ≡ whole
     unfolding good_before
     older_ended h =
-        let front : at ≡ 0 = omega arith in
-        let none : sheets_of (take at b) ≡ [] = sheets_none (take at b) (rw front) in
-        let all : length (sheets_of (take place b)) ≡ sheets = so.count ∙ rw none (omega arith) in
-        rw (so.rest, none, all)
+        let none : sheets_of rest ≡ [] = sheets_none rest h in
+        let all : length (sheets_of b) ≡ sheets = so.count ∙ rw none (omega arith) in
+        rw (so.same, none, all)
 
-    module _ (r : Option Back) (is : r ≡ step_back b at) where
-      pub older_none : 0 < at → r ≡ None → None ≡ whole
+    module _ (r : Option Back) (is : r ≡ step_back rest (length rest)) where
+      pub older_none : (length rest ≡ 0 → ⊥) → r ≡ None → None ≡ whole
       unfolding good_before
-      older_none h e =
-          let tall : length (take at b) ≡ at = length-take-le at b (omega (arith, so.few, so.within)) in
-          let g = stepped_none b at r is e (omega (arith, so.few, so.within)) in
-          older_bad (rw (sheets_cut (take at b) (omega arith), g))
+      older_none h e = older_bad (rw (sheets_cut rest (omega arith), none_end rest r is e))
 
       module _ (s : Back) (e : r ≡ Some s) where
-        step : Stepped b at s
-        step = stepped b at r is s e
+        step : Stepped rest (length rest) s
+        step = stepped rest (length rest) r is s e
 
-        pub older_less : s.start < at
-        older_less = omega (arith, step.starts)
+        left : length (take s.start rest) ≡ s.start
+        left = length-take-le s.start rest (omega (arith, step.starts))
 
-        pub older_fits : Fits w64 place → Fits w64 (sheets + 1)
+        pub older_front : s.start ≡ length (take s.start rest)
+        older_front = sym left
+
+        pub older_room : s.start ≤ length rest
+        older_room = omega (arith, step.starts)
+
+        pub older_less : length (take s.start rest) < length rest
+        older_less = omega (arith, step.starts, left)
+
+        pub older_fits : Fits w64 (length b) → Fits w64 (sheets + 1)
         older_fits f = record { fits = omega (arith, so.few, step.starts, f.fits) }
 
         module _ (t : Bool) (test : t ≡ fits_before s.numbers newest turn) where
-          goes_on : good_before newest turn (sheets_of (take at b)) ≡ t && good_before newest s.numbers.turn (sheets_of (take s.start b))
+          goes_on : good_before newest turn (sheets_of rest) ≡ t && good_before newest s.numbers.turn (sheets_of (take s.start rest))
           unfolding good_before
           goes_on =
-              rw (step.sheets_are, step.is_good)
-              (ap (λ (x : Numbers). fits_before x newest turn && good_before newest x.turn (sheets_of (take s.start b))) (sym step.numbers_are)
-              ∙ ap (λ (u : Bool). u && good_before newest s.numbers.turn (sheets_of (take s.start b))) (sym test))
+              rw (sheets_end rest s step, step.is_good)
+              (ap (λ (x : Numbers). fits_before x newest turn && good_before newest x.turn (sheets_of (take s.start rest))) (sym step.numbers_are)
+              ∙ ap (λ (u : Bool). u && good_before newest s.numbers.turn (sheets_of (take s.start rest))) (sym test))
 
           pub older_misfit : not t ≡ true → None ≡ whole
           older_misfit off = older_bad (goes_on ∙ rw (not-true t off))
 
-          pub older_turned : not t ≡ false → OlderSoFar b place newest s.start s.numbers.turn (sheets + 1)
+          pub older_turned : not t ≡ false → OlderSoFar b newest (take s.start rest) s.numbers.turn (sheets + 1)
           older_turned on =
-              let one : length (sheets_of (take at b)) ≡ suc (length (sheets_of (take s.start b))) = ap length step.sheets_are in
+              let one : length (sheets_of rest) ≡ suc (length (sheets_of (take s.start rest))) = ap length (sheets_end rest s step) in
               record {
-                within = so.within;
-                few = omega (arith, so.few, step.starts);
-                rest = so.rest ∙ goes_on ∙ rw (not-false t on);
+                few = omega (arith, so.few, step.starts, left);
+                same = so.same ∙ goes_on ∙ rw (not-false t on);
                 count = so.count ∙ omega (arith, one);
               }
 
-pub ruleset olders = (older_begun, older_within, older_ended, older_none, older_less, older_fits, older_misfit, older_turned)
+pub ruleset olders = (older_begun, older_ended, older_none, older_room, older_front, older_less, older_fits, older_misfit, older_turned)
 
 -- ---- the whole book
 
@@ -116,8 +115,7 @@ module _ (b : List ℕ) where
 
     pub examine_none : r ≡ None → Err refusal.BookNotGood ≡ of_book
     examine_none e =
-        let g : good (last_sheet b) ≡ false = subst (λ (l : List ℕ). good (last_sheet l) ≡ false) (take-length b) (stepped_none b (length b) r is e (omega arith)) in
-        rw (sheets_cut b up, good_is_before (last_sheet b) (sheets_of (before b)), g)
+        rw (sheets_cut b up, good_is_before (last_sheet b) (sheets_of (before b)), none_end b r is e)
 
     module _ (s : Back) (e : r ≡ Some s) where
       last : Stepped b (length b) s
@@ -126,8 +124,11 @@ module _ (b : List ℕ) where
       pub examine_room : s.start ≤ length b
       examine_room = omega (arith, last.starts)
 
+      pub examine_front : s.start ≡ length (take s.start b)
+      examine_front = sym (length-take-le s.start b examine_room)
+
       sheets_are : sheets_of b ≡ part_of b s.start (length b) ∷ sheets_of (take s.start b)
-      sheets_are = ap sheets_of (sym (take-length b)) ∙ last.sheets_are
+      sheets_are = sheets_end b s last
 
       good_is : good_book b ≡ good_before s.numbers s.numbers.turn (sheets_of (take s.start b))
       good_is =
@@ -162,4 +163,4 @@ module _ (b : List ℕ) where
             ∙ ap (λ (n : Numbers). Ok (Some (record { sheets = suc (length (sheets_of (take s.start b))); newest = n }))) last.numbers_are
             ∙ sym (rw (so.0, sheets_are))
 
-pub ruleset examines = (examine_empty, examine_none, examine_room, examine_older, examine_fits, examine_sheets)
+pub ruleset examines = (examine_empty, examine_none, examine_room, examine_front, examine_older, examine_fits, examine_sheets)

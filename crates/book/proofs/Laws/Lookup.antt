@@ -10,7 +10,7 @@ use native.Mathlib.Omega.{arith}
 use native.Mathlib.Numerals.{add-one}
 use lib.Dec.{eqb}
 use lib.ListN.{length, get_or, take, drop, drop_of_length-le}
-use lib.Seq.{drop-cons, take-length, length-take-le, get_or-drop}
+use lib.Seq.{drop-cons, length-take-le, get_or-drop}
 use borrow.Author.Tests.{eq-eqb, ne_eqb, le-leb, eqb-true, eqb-false}
 use Rattle.std.specs.Prelude.{Option, Some, None}
 use Rattle.content.specs.declared.Content.{Content}
@@ -18,7 +18,7 @@ use Rattle.layout.specs.declared.Entry.{Entry}
 use Rattle.layout.specs.declared.Numbers.{Numbers}
 use Rattle.layout.specs.Layout.{entry_of, entries_of, content_in}
 use Rattle.layout.proofs.Laws.{entries_count, entry_of_entries}
-use Rattle.numbers.proofs.Tests.{and_split}
+use Rattle.numbers.proofs.Tests.{and_left, and_right}
 use Rattle.sheet.specs.Good.{good}
 use Rattle.sheet.specs.Reading.{no_entry, entry_at}
 use Rattle.sheet.proofs.Laws.Good.{good_length}
@@ -30,7 +30,7 @@ use Rattle.book.specs.Stepping.{part_of, step_back}
 use Rattle.book.specs.Lookup.{entry, entries_in, entry_on, or_older, newest}
 use Rattle.book.specs.Parts.{found_of}
 use Rattle.book.proofs.Laws.Sheets.{sheets_none, sheets_cut}
-use Rattle.book.proofs.Laws.Stepping.{Stepped, stepped, stepped_none}
+use Rattle.book.proofs.Laws.Stepping.{Stepped, stepped, sheets_end, none_end}
 
 -- ---- a sheet's entries
 
@@ -85,95 +85,91 @@ pub ruleset hits = (hit_begun, hit_none, hit_found, hit_turned)
 
 -- ---- back through a book
 
-pub record NewestSoFar (b : List ℕ) (cell place : ℕ) : Type 0 where
-  pub within : place ≤ length b
-  pub all_good : every_sheet good (sheets_of (take place b)) ≡ true
-  pub passed : newest cell (sheets_of b) ≡ newest cell (sheets_of (take place b))
+pub record NewestSoFar (b : List ℕ) (cell : ℕ) (rest : List ℕ) : Type 0 where
+  pub all_good : every_sheet good (sheets_of rest) ≡ true
+  pub passed : newest cell (sheets_of b) ≡ newest cell (sheets_of rest)
 
 module _ (b : List ℕ) (cell : ℕ) where
   abbrev answer : Option Found
   answer = found_of (newest cell (sheets_of b))
 
-  pub newest_begun : every_sheet good (sheets_of b) ≡ true → NewestSoFar b cell (length b)
-  newest_begun g =
-      record {
-        within = omega arith;
-        all_good = ap (λ (l : List ℕ). every_sheet good (sheets_of l)) (take-length b) ∙ g;
-        passed = rw (take-length b);
-      }
+  pub newest_begun : every_sheet good (sheets_of b) ≡ true → NewestSoFar b cell b
+  newest_begun g = record { all_good = g; passed = refl }
 
-  module _ {place : ℕ} (so : NewestSoFar b cell place) where
+  module _ {rest : List ℕ} (so : NewestSoFar b cell rest) where
     -- a step back from there need not test the sheet
-    pub newest_known : 0 < place → good (last_sheet (take place b)) ≡ true
+    pub newest_known : 0 < length rest → good (last_sheet rest) ≡ true
     newest_known h =
-        let long : length (take place b) ≡ place = length-take-le place b so.within in
-        let cut = sheets_cut (take place b) (omega (arith, long)) in
-        (and_split (good (last_sheet (take place b))) (every_sheet good (sheets_of (before (take place b)))) (sym (ap (every_sheet good) cut) ∙ so.all_good)).0
+        and_left (good (last_sheet rest)) (every_sheet good (sheets_of (before rest))) (sym (ap (every_sheet good) (sheets_cut rest h)) ∙ so.all_good)
 
-  module _ {place : ℕ} (so : NewestSoFar b cell place) (r : Option Back) (is : r ≡ step_back b place) where
-    none_left : r ≡ None → sheets_of (take place b) ≡ []
-    none_left e = by_test (eqb (length (take place b)) 0) refl
-      where
-        by_test : (t : Bool) → eqb (length (take place b)) 0 ≡ t → sheets_of (take place b) ≡ []
-        by_test true t = sheets_none (take place b) (eqb-true (length (take place b)) 0 t)
-        by_test false t =
-            let some = eqb-false (length (take place b)) 0 t in
-            let long : length (take place b) ≡ place = length-take-le place b so.within in
-            absurd (false≢true (sym (stepped_none b place r is e so.within) ∙ newest_known so (omega (arith, long))))
+    module _ (r : Option Back) (is : r ≡ step_back rest (length rest)) where
+      none_left : r ≡ None → sheets_of rest ≡ []
+      none_left e = by_test (eqb (length rest) 0) refl
+        where
+          by_test : (t : Bool) → eqb (length rest) 0 ≡ t → sheets_of rest ≡ []
+          by_test true t = sheets_none rest (eqb-true (length rest) 0 t)
+          by_test false t =
+              let some = eqb-false (length rest) 0 t in
+              absurd (false≢true (sym (none_end rest r is e) ∙ newest_known (omega arith)))
 
-    pub newest_none : r ≡ None → None ≡ answer
-    unfolding newest
-    newest_none e = rw (so.passed, none_left e)
+      pub newest_none : r ≡ None → None ≡ answer
+      unfolding newest
+      newest_none e = rw (so.passed, none_left e)
 
-    module _ (s : Back) (e : r ≡ Some s) where
-      step : Stepped b place s
-      step = stepped b place r is s e
+      module _ (s : Back) (e : r ≡ Some s) where
+        step : Stepped rest (length rest) s
+        step = stepped rest (length rest) r is s e
 
-      pub newest_part_start : s.start ≤ s.end
-      newest_part_start = omega (arith, step.starts, step.ends)
+        pub newest_part_start : s.start ≤ s.end
+        newest_part_start = omega (arith, step.starts, step.ends)
 
-      pub newest_part_end : s.end ≤ length b
-      newest_part_end = omega (arith, step.within, step.ends)
+        pub newest_part_end : s.end ≤ length rest
+        newest_part_end = omega (arith, step.ends)
 
-      pub newest_less : s.start < place
-      newest_less = omega (arith, step.starts)
+        pub newest_front : s.start ≤ length rest
+        newest_front = omega (arith, step.starts)
 
-      part : part_of b s.start s.end ≡ part_of b s.start place
-      part = ap (part_of b s.start) step.ends
+        pub newest_left : s.start ≡ length (take s.start rest)
+        newest_left = sym (length-take-le s.start rest newest_front)
 
-      pub newest_room : 6 * s.numbers.entries + 12 ≤ length (part_of b s.start s.end)
-      newest_room =
-          let many : s.numbers.entries ≡ (numbers_in (part_of b s.start place)).entries = ap (λ (x : Numbers). x.entries) step.numbers_are in
-          let long : length (part_of b s.start s.end) ≡ length (part_of b s.start place) = ap length part in
-          omega (arith, many, long, good_length (part_of b s.start place) step.is_good)
+        pub newest_less : length (take s.start rest) < length rest
+        newest_less = omega (arith, step.starts, length-take-le s.start rest newest_front)
 
-      module _ (h : Option Entry) (looked : h ≡ entry_on cell (entries_of s.numbers.entries (part_of b s.start s.end))) where
-        looked_at : h ≡ entry_on cell (entries_in (part_of b s.start place))
-        looked_at =
-            looked
-            ∙ ap (λ (l : List ℕ). entry_on cell (entries_of s.numbers.entries l)) part
-            ∙ ap (λ (x : Numbers). entry_on cell (entries_of x.entries (part_of b s.start place))) step.numbers_are
+        part : part_of rest s.start s.end ≡ part_of rest s.start (length rest)
+        part = ap (part_of rest s.start) step.ends
 
-        goes_on : newest cell (sheets_of b) ≡ or_older h s.numbers.turn (newest cell (sheets_of (take s.start b)))
-        unfolding newest
-        goes_on =
-            so.passed
-            ∙ rw step.sheets_are
-            (ap (λ (o : Option Entry). or_older o (numbers_in (part_of b s.start place)).turn (newest cell (sheets_of (take s.start b)))) (sym looked_at)
-            ∙ ap (λ (x : Numbers). or_older h x.turn (newest cell (sheets_of (take s.start b)))) (sym step.numbers_are))
+        pub newest_room : 6 * s.numbers.entries + 12 ≤ length (part_of rest s.start s.end)
+        newest_room =
+            let many : s.numbers.entries ≡ (numbers_in (part_of rest s.start (length rest))).entries = ap (λ (x : Numbers). x.entries) step.numbers_are in
+            let long : length (part_of rest s.start s.end) ≡ length (part_of rest s.start (length rest)) = ap length part in
+            omega (arith, many, long, good_length (part_of rest s.start (length rest)) step.is_good)
 
-        pub newest_found : (x : Entry) → h ≡ Some x → (c : Content) → c ≡ content_in x → Some (record { content = c; turn = s.numbers.turn }) ≡ answer
-        newest_found x e c content =
-            let older = newest cell (sheets_of (take s.start b)) in
-            ap (λ (y : Content). found_of (entry y s.numbers.turn)) content
-            ∙ sym (ap found_of (goes_on ∙ ap (λ (o : Option Entry). or_older o s.numbers.turn older) e))
+        module _ (h : Option Entry) (looked : h ≡ entry_on cell (entries_of s.numbers.entries (part_of rest s.start s.end))) where
+          looked_at : h ≡ entry_on cell (entries_in (part_of rest s.start (length rest)))
+          looked_at =
+              looked
+              ∙ ap (λ (l : List ℕ). entry_on cell (entries_of s.numbers.entries l)) part
+              ∙ ap (λ (x : Numbers). entry_on cell (entries_of x.entries (part_of rest s.start (length rest)))) step.numbers_are
 
-        pub newest_turned : h ≡ None → NewestSoFar b cell s.start
-        newest_turned e =
-            record {
-              within = omega (arith, step.starts, step.within);
-              all_good = (and_split (good (part_of b s.start place)) (every_sheet good (sheets_of (take s.start b))) (sym (ap (every_sheet good) step.sheets_are) ∙ so.all_good)).1;
-              passed = goes_on ∙ rw e;
-            }
+          goes_on : newest cell (sheets_of b) ≡ or_older h s.numbers.turn (newest cell (sheets_of (take s.start rest)))
+          unfolding newest
+          goes_on =
+              so.passed
+              ∙ rw (sheets_end rest s step)
+              (ap (λ (o : Option Entry). or_older o (numbers_in (part_of rest s.start (length rest))).turn (newest cell (sheets_of (take s.start rest)))) (sym looked_at)
+              ∙ ap (λ (x : Numbers). or_older h x.turn (newest cell (sheets_of (take s.start rest)))) (sym step.numbers_are))
 
-pub ruleset newests = (newest_begun, newest_known, newest_none, newest_part_start, newest_part_end, newest_less, newest_room, newest_found, newest_turned)
+          pub newest_found : (x : Entry) → h ≡ Some x → (c : Content) → c ≡ content_in x → Some (record { content = c; turn = s.numbers.turn }) ≡ answer
+          newest_found x e c content =
+              let older = newest cell (sheets_of (take s.start rest)) in
+              ap (λ (y : Content). found_of (entry y s.numbers.turn)) content
+              ∙ sym (ap found_of (goes_on ∙ ap (λ (o : Option Entry). or_older o s.numbers.turn older) e))
+
+          pub newest_turned : h ≡ None → NewestSoFar b cell (take s.start rest)
+          newest_turned e =
+              record {
+                all_good = and_right (good (part_of rest s.start (length rest))) (every_sheet good (sheets_of (take s.start rest))) (sym (ap (every_sheet good) (sheets_end rest s step)) ∙ so.all_good);
+                passed = goes_on ∙ rw e;
+              }
+
+pub ruleset newests = (newest_begun, newest_known, newest_none, newest_part_start, newest_part_end, newest_front, newest_left, newest_less, newest_room, newest_found, newest_turned)

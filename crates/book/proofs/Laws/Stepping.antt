@@ -13,7 +13,7 @@ use Prim.Native.Nat.{ℕ, ◌+◌, ◌*◌, ◌-◌, ◌<◌, ◌≤◌}
 use native.Mathlib.Omega.{arith}
 use lib.Dec.{leb}
 use lib.ListN.{length, take, drop, length-drop}
-use lib.Seq.{length-take-le, take-take, drop-drop}
+use lib.Seq.{length-take-le, take-take, take-length, drop-drop}
 use borrow.Author.Tests.{le-leb, lt-leb, leb-true, leb-false, not-true, not-false}
 use native.Mathlib.Nat.{sub-zero}
 use Rattle.std.specs.Prelude.{Option, Some, None, Result, Ok, Err, slice_range}
@@ -83,10 +83,10 @@ module _ (b : List ℕ) (place : ℕ) where
     step_short h = step_none (too_short_is_bad (last_sheet up_to) (omega (arith, length-drop (last_start up_to) up_to, long)))
 
     -- what the trailer up to the place says
-    module _ (t : Trailer) (is : t ≡ trailer_at_end up_to) where
+    module _ (u : List ℕ) (whole : u ≡ up_to) (t : Trailer) (is : t ≡ trailer_at_end u) where
       reads : 12 ≤ place → t ≡ trailer_in up_to
       unfolding trailer_at_end
-      reads far = is ∙ rw (le-leb 12 (length up_to) (omega (arith, long)))
+      reads far = is ∙ ap trailer_at_end whole ∙ rw (le-leb 12 (length up_to) (omega (arith, long)))
 
       start_is : 12 ≤ place → last_start up_to ≡ place - (t.distance + 12)
       start_is far = omega (arith, long, ap (λ (x : Trailer). x.distance) (reads far))
@@ -100,9 +100,9 @@ module _ (b : List ℕ) (place : ℕ) where
           by_length true f true e =
               let far = leb-true 12 place f in
               let front : last_start up_to ≡ 0 = omega (arith, start_is far) in
-              let whole : good up_to ≡ true = subst (λ (i : ℕ). good (drop i up_to) ≡ true) front e in
+              let all : good up_to ≡ true = subst (λ (i : ℕ). good (drop i up_to) ≡ true) front e in
               let same : t.distance ≡ (trailer_in up_to).distance = ap (λ (x : Trailer). x.distance) (reads far) in
-              absurd (h (omega (arith, (good_trailer_is_fair up_to whole).distance_is_back, same, long)))
+              absurd (h (omega (arith, (good_trailer_is_fair up_to all).distance_is_back, same, long)))
 
       module _ (room : t.distance + 12 ≤ place) where
         far : 12 ≤ place
@@ -131,8 +131,8 @@ module _ (b : List ℕ) (place : ℕ) where
         step_untested g n numbers = step_known (g (omega arith)) n numbers
 
         -- the part that the code reads, of what stands up to the place
-        pub part_read : (u : List ℕ) → u ≡ up_to → (start : ℕ) → start ≡ place - (t.distance + 12) → take (length u - start) (drop start u) ≡ last_sheet up_to
-        part_read u whole start is_start =
+        pub part_read : (start : ℕ) → start ≡ place - (t.distance + 12) → take (length u - start) (drop start u) ≡ last_sheet up_to
+        part_read start is_start =
             let at : start ≡ last_start up_to = is_start ∙ sym (start_is far) in
             ap (λ (l : List ℕ). take (length l - start) (drop start l)) whole
             ∙ ap (λ (i : ℕ). take (length up_to - i) (drop i up_to)) at
@@ -180,7 +180,11 @@ module _ (b : List ℕ) (place : ℕ) where
           by_room false f = step_far (λ h. omega (arith, h, leb-false (t.distance + 12) place f))
           by_room true f = step_none (by_parts (leb-true (t.distance + 12) place f) ∙ rw (sym test ∙ not-true g off))
 
-pub ruleset steps = (step_beyond, step_short, step_far, tested_trailer, tested_entries, tested_good)
+-- the whole of a slice is what stands up to its end
+pub all_of : (b : List ℕ) → b ≡ take (length b) b
+all_of b = sym (take-length b)
+
+pub ruleset steps = (all_of, step_beyond, step_short, step_far, tested_trailer, tested_entries, tested_good)
 
 -- ---- what a step tells
 
@@ -230,3 +234,11 @@ module _ (b : List ℕ) (place : ℕ) where
         by_test : (g : Bool) → good (last_sheet reached) ≡ g → good (last_sheet reached) ≡ false
         by_test false g = g
         by_test true g = absurd (none-some _ (sym e ∙ is ∙ step_sheet b place within g))
+
+-- a step from the end of all of them
+module _ (b : List ℕ) where
+  pub sheets_end : (s : Back) → Stepped b (length b) s → sheets_of b ≡ part_of b s.start (length b) ∷ sheets_of (take s.start b)
+  sheets_end s step = ap sheets_of (all_of b) ∙ step.sheets_are
+
+  pub none_end : (r : Option Back) → r ≡ step_back b (length b) → r ≡ None → good (last_sheet b) ≡ false
+  none_end r is e = ap (λ (l : List ℕ). good (last_sheet l)) (all_of b) ∙ stepped_none b (length b) r is e (omega arith)

@@ -1,11 +1,12 @@
 -- `sheets_before` meets its contract: what was looked at so far, and the rest, is the whole
 -- (`OlderSoFar`).
 -- Assumes nothing.
+use lib.ListN.{length}
 use Rattle.book.proofs.Laws.Examining.{OlderSoFar}
 use Rattle.book.proofs.examined.sheets_before.Given as goal
 
-abbrev pub invariant-loop-at : goal.invariant-loop-at
-invariant-loop-at l = OlderSoFar l.book l.place l.newest l.at l.turn l.sheets
+abbrev pub invariant-loop-rest : goal.invariant-loop-rest
+invariant-loop-rest l = OlderSoFar l.before l.newest l.rest l.turn l.sheets
 
-abbrev pub decreases-loop-at : goal.decreases-loop-at
-decreases-loop-at l = l.at
+abbrev pub decreases-loop-rest : goal.decreases-loop-rest
+decreases-loop-rest l = length l.rest
