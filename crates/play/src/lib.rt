@@ -31,8 +31,7 @@ struct Opening<'a> {
 fn too_long(input: &[u8]) -> bool
     ensures { result ≡ too_long input.now }
 {
-    let lines = schedule::lines_in(input);
-    (16384 < input.len()) | (1001 < lines)
+    16384 < input.len() || 1001 < schedule::lines_in(input)
 }
 
 // A line that is printed alone.

@@ -47,13 +47,13 @@ fn deliver(d: Desk, q: u8, tray: &mut [u8], latest: &[u8]) -> StepOutcome
     requires { LatestFit latest.now q }
     ensures { step_outcome result tray.new [] ≡ delivered d q tray.old latest.now [] }
 {
-    let len = tray::length_at(latest, q) as usize;
-    if len == 0 {
+    if tray::is_free(latest, q) {
         return StepOutcome {
             answer: StepAnswer::NothingSent,
             desk: d,
         };
     }
+    let len = tray::length_at(latest, q) as usize;
     let from = 398 * q as usize + 2;
     d.deliver(tray, &latest[from..from + len]).into()
 }

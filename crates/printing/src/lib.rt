@@ -25,6 +25,7 @@ pub enum StepAnswer {
 }
 
 // "Header: desks, cells, letter of the mode in force (never `-`)."
+// Stays: `wrote`, by which both promise, names buffer and place; the mode in force is no shelf's.
 #[tactic(auto, using(crate::proofs::Laws::digits_few), unfolding(crate::specs::Printing::header_text))]
 pub fn put_header(out: &mut [u8], at: usize, n: u32, m: u32, mode: u8) -> usize
     ensures result_after { record { bytes = out.new; end = result } ≡ wrote out.old at (header_text n m mode) }

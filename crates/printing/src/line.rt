@@ -44,6 +44,7 @@ impl Line {
     }
 
     // A text, and a number behind it.
+    // Stays: tried, not proved by `write!`, whose clause says what it wrote on Ok alone; this can't fail.
     #[tactic(auto, using(crate::proofs::Laws::lines))]
     pub(crate) fn number(&mut self, before: &str, k: u32)
         requires { length self.old + length before.now + length (decimal k) ≤ 64 }

@@ -1,13 +1,14 @@
 -- What the functions of src/lib.rt and src/running.rt know at each return, but for `run`, `started` and `play`.
---   long_is, mode_opened, mode_refused    the test on the input's length, and the mode of an opened desk
+--   longs, modes                          sets for `search`: the tests on the input's length, and the mode of an opened desk
 --   OpenedSoFar                           the loop that opens the desks
 -- Assumes nothing.
-use Prim.Native.Nat.{ℕ, ◌<◌}
+use Prim.Native.Nat.{ℕ, ◌<◌, ◌≤◌}
 use Rattle.std.specs.Prelude.{Some, None, Result, Ok, Err}
 use mathlib.Core.Path.{◌≡◌, refl, sym, ap, ◌∙◌}
-use mathlib.Core.Bool.{Bool, true, false, cond, ◌||◌, false≢true}
+use mathlib.Core.Bool.{Bool, true, false, cond, false≢true}
 use mathlib.Core.List.{List, []}
 use lib.Dec.{ltb}
+use borrow.Author.Tests.{lt-ltb, le-ltb}
 use lib.ListN.{length, get_or, replicate}
 use Rattle.answer.specs.Answer.{accepted}
 use Rattle.answer.specs.declared.Refusal.{Refusal}
@@ -24,9 +25,16 @@ use Rattle.play.specs.Parts.Running.{no_desk, clear_trays, no_sheets, mode_in_fo
 
 -- ---- the input's length
 
-pub long_is : (input : List ℕ) (lines : ℕ) → lines ≡ length (lines_of input) → ltb 16384 (length input) || ltb 1001 lines ≡ too_long input
-unfolding too_long
-long_is input lines e = ap (λ (k : ℕ). ltb 16384 (length input) || ltb 1001 k) e
+module _ (input : List ℕ) where
+  pub long_bytes : 16384 < length input → true ≡ too_long input
+  unfolding too_long
+  long_bytes h = rw (lt-ltb 16384 (length input) h)
+
+  pub long_lines : length input ≤ 16384 → (lines : ℕ) → lines ≡ length (lines_of input) → ltb 1001 lines ≡ too_long input
+  unfolding too_long
+  long_lines h lines e = rw (le-ltb 16384 (length input) h, e) refl
+
+pub ruleset longs = (long_bytes, long_lines)
 
 -- ---- the mode
 

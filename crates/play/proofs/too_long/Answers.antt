@@ -1,8 +1,11 @@
--- `too_long` meets its contract (`long_is`).
+-- `too_long` meets its contract (`longs`).
 -- Assumes nothing.
 use borrow.Author.Rules.{rules}
-use Rattle.play.proofs.Laws.Running.{long_is}
+use Rattle.play.proofs.Laws.Running.{longs}
 use Rattle.play.proofs.too_long.Goals as goal
 
-pub returns : goal.returns
-returns c = search (long_is, rules)
+pub returns-then-input-gt16384 : goal.returns-then-input-gt16384
+returns-then-input-gt16384 c = search (longs, rules)
+
+pub returns-else-input-gt16384 : goal.returns-else-input-gt16384
+returns-else-input-gt16384 c = search (longs, rules)
