@@ -5,7 +5,8 @@ ghost use Rattle.play.specs.Parts.Lines.{NoneEnded, FirstLine, said, BadFirst, F
 
 use schedule::Step;
 
-// The first line, without its line feed, and the text behind it; nothing, where no line feed ends it.
+// The first line, without its line feed, and the text behind it; nothing, where no line feed ends
+// it.
 pub(crate) fn line_in(lines: &[u8]) -> Option<(&[u8], &[u8])>
     ensures { MatchOption result (NoneEnded lines.now) (λ p. FirstLine lines.now p.0.now p.1.now) }
 {
@@ -16,8 +17,8 @@ pub(crate) fn line_in(lines: &[u8]) -> Option<(&[u8], &[u8])>
     Some((&lines[..end], &lines[end + 1..]))
 }
 
-// The step of the first line on a shelf of n desks, and the text behind the line; nothing, where the
-// line is bad, as one is that no line feed ends.
+// The step of the first line on a shelf of n desks, and the text behind the line; nothing, where
+// the line is bad, as one is that no line feed ends.
 pub(crate) fn step_in(lines: &[u8], n: u32) -> Option<(Step, &[u8])>
     ensures { MatchOption result (BadFirst n (lines_of lines.now)) (λ p. FirstStep n lines.now (said p.0) p.1.now) }
 {

@@ -1,8 +1,8 @@
 // A run of `rounds`: a schedule's bytes in, the bytes it prints out. 01, "The program `rounds`".
 //
 // `play` is all there is between standard input and standard output. Its promise is one record,
-// `Prints`, of the definition `printed` (specs/Rounds.antt), which reads like 01's section, for every
-// input.
+// `Prints`, of the definition `printed` (specs/Rounds.antt), which reads like 01's section, for
+// every input.
 #![tactic(auto)]
 
 ghost use Rattle.std.specs.Prelude.{◌≡◌, length, MatchOption};
@@ -18,8 +18,8 @@ mod first;
 mod making;
 mod running;
 
-// What line 1 says, where it is a start: the shelf, whose desks can be opened, and the mode in force;
-// and the lines behind it.
+// What line 1 says, where it is a start: the shelf, whose desks can be opened, and the mode in
+// force; and the lines behind it.
 #[derive(Clone, Copy)]
 struct Opening<'a> {
     shelf: Shelf,
@@ -65,7 +65,8 @@ fn started(input: &[u8]) -> Option<Opening<'_>>
 }
 
 // Plays the schedule, and prints from the buffer's front on; answers how many bytes that are. The
-// buffer has 64 bytes for each of 1,001 lines, and no line is longer: so there is room for every run.
+// buffer has 64 bytes for each of 1,001 lines, and no line is longer: so there is room for every
+// run.
 pub fn play(input: &[u8], out: &mut [u8; 64064]) -> usize
     ensures { Prints (printed input.now) out.old out.new result }
 {

@@ -1,4 +1,5 @@
-// One step, made on a desk's record, its tray, and the places in which each desk's latest sheet lies.
+// One step, made on a desk's record, its tray, and the places in which each desk's latest sheet
+// lies.
 ghost use Rattle.std.specs.Prelude.{[], ◌≡◌, ◌<◌};
 ghost use Rattle.desk.specs.Calls.{send_of};
 ghost use Rattle.play.specs.Steps.{sheet_room};
@@ -27,8 +28,8 @@ impl From<Outcome> for StepOutcome {
     }
 }
 
-// A send; "`s` lends 396 bytes". The sheet, if one is sent, becomes the latest of desk p: its entries
-// have 6 bytes each, and its trailer 12.
+// A send; "`s` lends 396 bytes". The sheet, if one is sent, becomes the latest of desk p: its
+// entries have 6 bytes each, and its trailer 12.
 fn send(d: Desk, p: u8, latest: &mut [u8]) -> StepOutcome
     ensures { step_outcome result [] latest.new ≡ step_by_send p (send_of d sheet_room) [] latest.old }
 {

@@ -6,7 +6,8 @@ use desk::Desk;
 use printing::StepAnswer;
 use schedule::{Shelf, Step};
 
-// "Open all desks of a shelf once"; what is behind the shelf's desks in the array is refused, and never used.
+// "Open all desks of a shelf once"; what is behind the shelf's desks in the array is refused, and
+// never used.
 fn opened(shelf: Shelf) -> [Desk; 16]
     ensures { AllOpened (said_shelf shelf) result }
 {
@@ -24,8 +25,8 @@ pub(crate) fn run(steps: &[u8], shelf: Shelf, out: &mut [u8], at: usize) -> usiz
     ensures { Ran (run_of steps.now (said_shelf shelf)) out.old at out.new result }
 {
     let mut desks = opened(shelf);
-    // "clear trays": 398 bytes for each of 16 desks, 16 times. The first 398 × n × n bytes are those of
-    // n desks.
+    // "clear trays": 398 bytes for each of 16 desks, 16 times. The first 398 × n × n bytes are
+    // those of n desks.
     let mut trays = [0; 101888];
     // A place for each desk's latest sheet; none has one.
     let mut latest = [0; 6368];

@@ -1,5 +1,5 @@
-// The words of a line. Each function requires room for the longest text that it may write: a number of
-// 32 bits has at most 10 digits, and one of 8 bits 3.
+// The words of a line. Each function requires room for the longest text that it may write: a number
+// of 32 bits has at most 10 digits, and one of 8 bits 3.
 ghost use Rattle.std.specs.Prelude.{◌≡◌, ◌++◌, ◌+◌, ◌≤◌, length};
 ghost use Rattle.desk.specs.Answers.{waited_of, value_of, said_answer};
 ghost use Rattle.text.specs.Text.{text as text·bytes};

@@ -1,7 +1,8 @@
 // What `rounds` prints: the header, and a line for each step. 01, "The program `rounds`".
 //
-// A line has at most 64 bytes. It is laid into a lent buffer from `at` on, where 64 bytes are left, and
-// the answer is where the text goes on; without that room nothing is laid, and the answer is `at`.
+// A line has at most 64 bytes. It is laid into a lent buffer from `at` on, where 64 bytes are left,
+// and the answer is where the text goes on; without that room nothing is laid, and the answer is
+// `at`.
 #![tactic(auto)]
 
 ghost use Rattle.std.specs.Prelude.{◌≡◌, ◌+◌, ◌≤◌};

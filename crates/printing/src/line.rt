@@ -1,5 +1,5 @@
-// A line that is being written: its text so far, of 64 bytes at most. To the contracts a line is that
-// text.
+// A line that is being written: its text so far, of 64 bytes at most. To the contracts a line is
+// that text.
 ghost use Rattle.std.specs.Prelude.{◌≡◌, [], ◌++◌, ◌+◌, ◌≤◌, List, ℕ, length, take};
 ghost use Rattle.text.specs.Decimal.{decimal};
 ghost use Rattle.printing.specs.Printing.{wrote};
@@ -44,7 +44,7 @@ impl Line {
     }
 
     // A text, and a number behind it.
-    // Stays: tried, not proved by `write!`, whose clause says what it wrote on Ok alone; this can't fail.
+    // Stays: tried, not proved by `write!`: it says what it wrote on Ok alone, and this can't fail.
     #[tactic(auto, using(crate::proofs::Laws::lines))]
     pub(crate) fn number(&mut self, before: &str, k: u32)
         requires { length self.old + length before.now + length (decimal k) ≤ 64 }
@@ -55,8 +55,8 @@ impl Line {
         self.len += text::put_decimal(&mut self.bytes, self.len, k);
     }
 
-    // Lays the line over the buffer from `at` on, where 64 bytes are left; answers where the text goes
-    // on.
+    // Lays the line over the buffer from `at` on, where 64 bytes are left; answers where the text
+    // goes on.
     #[tactic(auto, using(crate::proofs::Laws::laid_lines))]
     pub(crate) fn lay(&self, out: &mut [u8], at: usize) -> usize
         ensures result_after { record { bytes = out.new; end = result } ≡ wrote out.old at self.now }
