@@ -9,14 +9,14 @@ use layout::{Entry, Trailer};
 pub trait AsEntry {
     ghost read_as: { Self → Entry };
 
-    fn as_entry(self) -> Entry
-        ensures { result ≡ read_as self };
+    fn as_entry(&self) -> Entry
+        ensures { result ≡ read_as self.now };
 }
 
 impl AsEntry for [u8; 6] {
     ghost read_as = { λ b. entry_of b };
 
-    fn as_entry(self) -> Entry {
+    fn as_entry(&self) -> Entry {
         Entry {
             cell: self[0],
             kind: self[1],
@@ -28,8 +28,8 @@ impl AsEntry for [u8; 6] {
 impl AsEntry for Entry {
     ghost read_as = { λ e. e };
 
-    fn as_entry(self) -> Entry {
-        self
+    fn as_entry(&self) -> Entry {
+        *self
     }
 }
 

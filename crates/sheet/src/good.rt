@@ -25,12 +25,18 @@ pub fn good_trailer(t: Trailer, back: usize) -> bool
 pub fn good_entry(cells: u8, least: u32, e: Entry) -> bool
     ensures { result ≡ good_entry cells least e }
 {
-    least <= u32::from(e.cell) && e.cell < cells && (e.kind == 2 || (e.kind == 1 && e.day == 0))
+    least <= u32::from(e.cell)
+        && e.cell < cells
+        && match e.kind {
+            1 => e.day == 0,
+            2 => true,
+            _ => false,
+        }
 }
 
 // Entries of a sheet with so many cells, given or read, each looked at once, up to the first that is
 // not good. Their days have 32 bits, so they are as good as they are on the line.
-pub fn all_good<E: AsEntry + Copy>(es: &[E], cells: u8) -> bool
+pub fn all_good<E: AsEntry>(es: &[E], cells: u8) -> bool
     ensures clauses { result ≡ good_entries cells (map E.read_as es.now) }
     ensures on_the_line { result ≡ good_entries cells (map in_32_bits (map E.read_as es.now)) }
 {
