@@ -17,6 +17,7 @@ use answer::Refusal;
 use layout::{Entry, Numbers, Trailer};
 
 // Lays an entry's 6 bytes over the buffer from `at` on; without room it leaves every byte.
+// Stays: the place beside the buffer, of which the clause speaks (`laid_over`), here and below.
 pub fn put_entry(buf: &mut [u8], at: usize, e: Entry)
     ensures { buf.new ≡ laid_over buf.old at (entry_bytes e) }
 {
