@@ -17,11 +17,11 @@ use lib.IntN.{ℤ}
 use lib.ListN.{length, get_or, set, drop}
 use lib.Seq.{drop-drop}
 use mir.Syntax.{w8, w32}
-use mir.Val.{Fits, SFits, to_z, of_z, bool_byte}
+use mir.Val.{Fits, SFits, to_z, of_z}
 use mir.Facts.{to_z-of_z}
 use borrow.Author.Tests.{le-leb, lt-leb}
 use Rattle.cells.specs.Cells.{place_at, put_if}
-use Rattle.cells.proofs.Laws.{place_kept, place_length}
+use Rattle.cells.proofs.Laws.{put_off, place_kept, place_length}
 use Rattle.layout.specs.declared.Entry.{Entry}
 use Rattle.layout.specs.Layout.{entry_of, entries_of}
 use Rattle.sheet.specs.Reading.{entry_at}
@@ -90,11 +90,6 @@ at_most_one : (t : Bool) → cond t 1 0 ≤ 1
 at_most_one true = omega arith
 at_most_one false = omega arith
 
--- a test as a number, as the code casts it
-pub counted : (t : Bool) → bool_byte t ≡ cond t 1 0
-counted true = refl
-counted false = refl
-
 module _ (going : Entry → Bool) where
   pub went_within : (es : List Entry) → went_of going es ≤ length es
   unfolding went_of
@@ -138,43 +133,66 @@ module _ (causal : Bool) (pkind s : List ℕ) (count : ℕ) (kind₀ : List ℕ)
 
   module _ {kind : List ℕ} {day : List ℤ} {went i : ℕ} (so : GoneSoFar causal pkind s count kind₀ day₀ kind day went i) where
     module _ (h : i < count) where
-      pub gone_fits : (on : Bool) (one : ℕ) → one ≡ cond on 1 0 → Fits w8 count → Fits w8 (went + one)
-      gone_fits on one n fits = record { fits = omega (arith, so.few, n, at_most_one on) }
+      pub gone_fits : Fits w8 count → Fits w8 (went + 1)
+      gone_fits fits = record { fits = omega (arith, so.few) }
 
-      pub gone_turned : 6 * count + 12 ≤ length s
-          → (e : Entry) → e ≡ entry_at s i
-          → (on : Bool) → on ≡ goes causal pkind e
-          → (d : ℤ) → d ≡ to_z w32 e.day → SFits w32 d
-          → (kind' : List ℕ) → kind' ≡ put_if on kind e.cell e.kind
-          → (day' : List ℤ) → day' ≡ put_if on day e.cell (to_z w32 (of_z w32 d))
-          → (one : ℕ) → one ≡ cond on 1 0
-          → GoneSoFar causal pkind s count kind₀ day₀ kind' day' (went + one) (i + 1)
-      unfolding laid went_of
-      gone_turned room e is on test d signed fits kind' k day' y one n =
-          let stands : entry_at s i ≡ entry_of (drop (6 * i) s) = rw (le-leb (6 * i + 18) (length s) (omega arith)) in
-          let step : rest s count i ≡ e ∷ rest s count (i + 1) =
-          rest_step s count i h ∙ ap (λ (x : Entry). x ∷ rest s count (i + 1)) (sym (is ∙ stands))
-          in
-          record {
-            within_count = omega arith;
-            few = omega (arith, so.few, n, at_most_one on);
-            found =
-                so.found
-                ∙ ap (λ (es : List Entry). went + went_of on_shelf es) step
-                ∙ ap (λ (t : Bool). went + (cond t 1 0 + went_of on_shelf (rest s count (i + 1)))) (sym test)
-                ∙ omega (arith, n);
-            kinds =
-                so.kinds
-                ∙ ap (laid on_shelf kind_on kind) step
-                ∙ ap (λ (t : Bool). laid on_shelf kind_on (put_if t kind e.cell e.kind) (rest s count (i + 1))) (sym test)
-                ∙ ap (λ (l : List ℕ). laid on_shelf kind_on l (rest s count (i + 1))) (sym k);
-            days =
-                so.days
-                ∙ ap (laid on_shelf day_on day) step
-                ∙ ap (λ (t : Bool). laid on_shelf day_on (put_if t day e.cell (to_z w32 e.day)) (rest s count (i + 1))) (sym test)
-                ∙ ap (λ (z : ℤ). laid on_shelf day_on (put_if on day e.cell z) (rest s count (i + 1))) (sym (to_z-of_z fits ∙ signed))
-                ∙ ap (λ (l : List ℤ). laid on_shelf day_on l (rest s count (i + 1))) (sym y);
-          }
+      module _ (room : 6 * count + 12 ≤ length s) (e : Entry) (is : e ≡ entry_at s i) where
+        step : rest s count i ≡ e ∷ rest s count (i + 1)
+        step =
+            let stands : entry_at s i ≡ entry_of (drop (6 * i) s) = rw (le-leb (6 * i + 18) (length s) (omega arith)) in
+            rest_step s count i h ∙ ap (λ (x : Entry). x ∷ rest s count (i + 1)) (sym (is ∙ stands))
+
+        -- the shelf with what a test says is put on it, and the rest behind
+        with_rest : {A : Type 0} → (Entry → A) → List A → Bool → List A
+        with_rest value l t = laid on_shelf value (put_if t l e.cell (value e)) (rest s count (i + 1))
+
+        count_rest : Bool → ℕ
+        count_rest t = went + (cond t 1 0 + went_of on_shelf (rest s count (i + 1)))
+
+        module _ (test : Bool) (goes_so : goes causal pkind e ≡ test) where
+          kinds_so : laid on_shelf kind_on kind (rest s count i) ≡ with_rest kind_on kind test
+          unfolding laid with_rest
+          kinds_so = ap (laid on_shelf kind_on kind) step ∙ ap (with_rest kind_on kind) goes_so
+
+          days_so : laid on_shelf day_on day (rest s count i) ≡ with_rest day_on day test
+          unfolding laid with_rest
+          days_so = ap (laid on_shelf day_on day) step ∙ ap (with_rest day_on day) goes_so
+
+          count_so : went + went_of on_shelf (rest s count i) ≡ count_rest test
+          unfolding went_of count_rest
+          count_so = ap (λ (es : List Entry). went + went_of on_shelf es) step ∙ ap count_rest goes_so
+
+        pub gone_on : goes causal pkind e ≡ true → (d : ℤ) → d ≡ to_z w32 e.day → SFits w32 d
+            → (kind' : List ℕ) → kind' ≡ put_if true kind e.cell e.kind
+            → (day' : List ℤ) → day' ≡ put_if true day e.cell (to_z w32 (of_z w32 d))
+            → (went' : ℕ) → went' ≡ went + 1
+            → GoneSoFar causal pkind s count kind₀ day₀ kind' day' went' (i + 1)
+        unfolding with_rest count_rest
+        gone_on on d signed fits kind' k day' y went' w =
+            record {
+              within_count = omega arith;
+              few = omega (arith, so.few, w);
+              found = so.found ∙ count_so true on ∙ omega (arith, w);
+              kinds = so.kinds ∙ kinds_so true on ∙ ap (λ (l : List ℕ). laid on_shelf kind_on l (rest s count (i + 1))) (sym k);
+              days =
+                  so.days
+                  ∙ days_so true on
+                  ∙ ap (λ (z : ℤ). laid on_shelf day_on (put_if true day e.cell z) (rest s count (i + 1))) (sym (to_z-of_z fits ∙ signed))
+                  ∙ ap (λ (l : List ℤ). laid on_shelf day_on l (rest s count (i + 1))) (sym y);
+            }
+
+        pub gone_off : goes causal pkind e ≡ false
+            → (kind' : List ℕ) → kind' ≡ kind → (day' : List ℤ) → day' ≡ day → (went' : ℕ) → went' ≡ went
+            → GoneSoFar causal pkind s count kind₀ day₀ kind' day' went' (i + 1)
+        unfolding with_rest count_rest
+        gone_off off kind' k day' y went' w =
+            record {
+              within_count = omega arith;
+              few = omega (arith, so.few, w);
+              found = so.found ∙ count_so false off ∙ omega (arith, w);
+              kinds = so.kinds ∙ kinds_so false off ∙ ap (λ (l : List ℕ). laid on_shelf kind_on l (rest s count (i + 1))) (sym (k ∙ put_off kind e.cell e.kind refl));
+              days = so.days ∙ days_so false off ∙ ap (λ (l : List ℤ). laid on_shelf day_on l (rest s count (i + 1))) (sym (y ∙ put_off day e.cell (to_z w32 e.day) refl));
+            }
 
     pub gone_ended : 6 * count + 12 ≤ length s → count ≤ i → AppliesEntries causal pkind (entries_in s count) kind₀ day₀ went kind day
     unfolding laid went_of
@@ -191,4 +209,4 @@ module _ (causal : Bool) (pkind s : List ℕ) (count : ℕ) (kind₀ : List ℕ)
   unfolding laid went_of
   gone_none h = rw (lt-leb (6 * count + 12) (length s) h) (record { went = refl; kinds = refl; days = refl })
 
-pub ruleset applyings = (gone_begun, gone_fits, gone_turned, gone_ended, gone_none)
+pub ruleset applyings = (gone_begun, gone_fits, gone_ended, gone_none)

@@ -34,10 +34,11 @@ pub fn apply(
     }
     for i in 0..count {
         let e = sheet::entry_at(s, i);
-        let on = entry_goes(causal, pkind, e);
-        cells::put(kind, on, e.cell as usize, e.kind);
-        cells::put(day, on, e.cell as usize, e.day.cast_signed());
-        went += u8::from(on);
+        if entry_goes(causal, pkind, e) {
+            cells::put(kind, true, e.cell as usize, e.kind);
+            cells::put(day, true, e.cell as usize, e.day.cast_signed());
+            went += 1;
+        }
     }
     went
 }

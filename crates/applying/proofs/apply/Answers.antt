@@ -1,8 +1,9 @@
 -- `apply` meets its contract: what is laid so far, with the rest laid on it, is the whole (`GoneSoFar`).
 -- Assumes nothing.
-use Rattle.std.proofs.Common.{rules, ◌∙◌, w32, FitsSigned}
-use Rattle.applying.proofs.Laws.{applyings, counted, gone_turned}
+use Rattle.std.proofs.Common.{rules, ◌∙◌, sym, w32, FitsSigned}
+use Rattle.applying.proofs.Laws.{applyings, gone_on, gone_off}
 use Rattle.applying.proofs.apply.Goals as goal
+use Rattle.applying.proofs.apply.Goals.{then-entry_goes, else-entry_goes}
 
 pub returns-then-s-count : goal.returns-then-s-count
 returns-then-s-count c = search (applyings, rules)
@@ -15,9 +16,14 @@ overflow_add-went c = search (applyings, rules)
 
 pub loop-i-preserved : goal.loop-i-preserved
 loop-i-preserved c =
-    let fits : FitsSigned w32 c.cast_signed.result = search rules in
-    gone_turned _ _ _ _ _ _ c.loop-i.invariant c.loop-i-test.true c.if-s-count.false _ c.entry_at-e.ensures _ c.entry_goes-on.ensures _ c.cast_signed.ensures fits
-    _ c.put.ensures _ c.put-in-loop-i.ensures _ (c.from-went.ensures ∙ counted c.entry_goes-on.result)
+    elim c.if-entry_goes.branch [
+      | then-entry_goes w ↦
+          let fits : FitsSigned w32 w.cast_signed.result = search rules in
+          gone_on _ _ _ _ _ _ c.loop-i.invariant c.loop-i-test.true c.if-s-count.false _ c.entry_at-e.ensures (sym c.entry_goes.ensures ∙ w.if-entry_goes.true) _ w.cast_signed.ensures fits
+          _ (w.kind-is ∙ w.put.ensures) _ (w.day-is ∙ w.put-then-entry_goes.ensures) _ w.went-is
+      | else-entry_goes w ↦
+          gone_off _ _ _ _ _ _ c.loop-i.invariant c.loop-i-test.true c.if-s-count.false _ c.entry_at-e.ensures (sym c.entry_goes.ensures ∙ w.if-entry_goes.false) _ w.kind-is _ w.day-is _ w.went-is
+    ]
 
 pub returns : goal.returns
 returns c = search (applyings, rules)
