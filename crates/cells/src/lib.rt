@@ -43,6 +43,7 @@ impl<'a> Places<'a> {
     pub fn any_filled(self) -> bool
         ensures { result ≡ anywhere 64 (filled self.entry.kinds.now) }
     {
+        // Stays: to the last place, which takes 20 instructions; `any` takes 130.
         let mut any = false;
         for kind in self.kinds {
             any |= *kind != 0;
@@ -55,6 +56,7 @@ impl<'a> Places<'a> {
     pub fn count_filled(self) -> u8
         ensures { result ≡ count 64 (filled self.entry.kinds.now) }
     {
+        // Stays: a sum, which takes 36 instructions; `filter` and `count` take 455.
         let mut n = 0;
         for kind in self.kinds {
             n += u8::from(*kind != 0);

@@ -1,8 +1,9 @@
 // When a record is sound. 01, "A desk, call by call": "A record is sound if .." (specs/Sound.antt).
 //
-// A record comes as its head, the numbers, and the places of its shelf and its pending entries, lent.
-// Each loop makes one test of its places to the last and never stops early, so that it compiles to a
-// few wide instructions.
+// A record comes as its head, the numbers, and the places of its shelf and its pending entries,
+// lent. Each loop makes one test of its places to the last and never stops early, so that it
+// compiles to a few wide instructions.
+// Stays: the loops, since `all` stops early: all_kinds_fit takes 55 instructions, by `all` 871.
 #![tactic(auto)]
 
 ghost use Rattle.std.specs.Prelude.{◌≡◌};
@@ -13,8 +14,8 @@ ghost use Rattle.sound.specs.Parts.{blank_from, kinds_fit, wanted_day, pending_d
 
 use cells::Places;
 
-// The numbers of a record: desks, cells, own number, mode, turn number, and the waiting read: 0 where
-// none waits, else one more than its cell.
+// The numbers of a record: desks, cells, own number, mode, turn number, and the waiting read: 0
+// where none waits, else one more than its cell.
 #[derive(Clone, Copy)]
 pub struct Head {
     pub n: u8,
@@ -50,8 +51,8 @@ impl Head {
         desks && cells && self.own < self.n && mode
     }
 
-    // A waiting read "has mode 1, a cell below m that is not pending, something pending, and the turn
-    // elsewhere".
+    // A waiting read "has mode 1, a cell below m that is not pending, something pending, and the
+    // turn elsewhere".
     fn wait_is_sound(self, pending: Places) -> bool
         ensures { result ≡ (read_waits self implies wait_sound self pending.entry.kinds.now) }
     {
@@ -123,7 +124,7 @@ fn wanted(pkind: u8, day: i32) -> i32
     if pkind == 0 { 0 } else { day }
 }
 
-// Over an index, since a `zip` of three takes 548 instructions, and this 117.
+// Stays: an index, which takes 117 instructions; a `zip` of three arrays takes 548.
 fn all_days_agree<'a>(days: &'a [i32; 64], pkinds: &'a [u8; 64], pdays: &'a [i32; 64]) -> bool
     ensures { result ≡ each 64 (λ i. same_day (day_at pdays.now i) (wanted_day (kind_at pkinds.now i) (day_at days.now i))) }
 {
