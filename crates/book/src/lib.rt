@@ -79,7 +79,8 @@ pub fn count(book: &[u8]) -> Result<usize, Refusal>
 pub fn lookup(book: &[u8], cell: u32) -> Result<Option<Found>, Refusal>
     ensures { said_found result ≡ lookup_of book.now cell }
 {
-    let cells = examined::examine(book)?.map_or(64, |seen| seen.newest.cells);
+    let seen = examined::examine(book)?;
+    let cells = seen.map_or(64, |seen| seen.newest.cells);
     Refusal::CellNotBelow.when(u32::from(cells) <= cell)?;
     Ok(newest::entry(book, cell as u8))
 }

@@ -18,6 +18,7 @@ pub(crate) fn entry(book: &[u8], cell: u8) -> Option<Found>
     ensures { result ≡ found_of (newest cell (sheets_of book.now)) }
 {
     let mut rest = book;
+    // Stays: `let .. else` takes the found sheet's bounds, a form that 01 names (docs/DECISIONS.md).
     loop {
         let Some(
             Back {

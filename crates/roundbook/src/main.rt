@@ -90,6 +90,7 @@ fn answer(rt: &impl Runtime, room: &mut [u8]) -> Option<()> {
 
 fn main(rt: HostRuntime) {
     // Bytes for a book, and behind it for a sheet; a book that reaches beyond MOST shows in them.
+    // Stays: an array and no Vec, whose memory could run out: one line more for the same limit.
     let mut space = [0u8; 524685];
     if word::is_there(rt.arg(1, &mut [])) {
         answer(&rt, &mut space);

@@ -4,18 +4,18 @@ use Rattle.std.proofs.Common.{rules, of_calls}
 use Rattle.book.proofs.Laws.Calls.{lookup_bad, lookup_good, lookup_no_cell, lookup_newest}
 use Rattle.book.proofs.lookup.Goals as goal
 
-pub returns-in_err-examine : goal.returns-in_err-examine
-returns-in_err-examine c = lookup_bad _ _ _ c.examine.ensures _ c.in_err-examine.was _ c.from_residual.ensures.1
+pub returns-in_err-seen : goal.returns-in_err-seen
+returns-in_err-seen c = lookup_bad _ _ _ c.examine.ensures _ c.in_err-seen.was _ c.from_residual.ensures.1
 
 pub returns-in_err-when : goal.returns-in_err-when
 returns-in_err-when c =
-    lookup_no_cell c.args.book.now c.args.cell _ c.examine.ensures _ c.in_ok-examine.was c.from.result (search (rules, of_calls, c.from.ensures, c.map_or-cells.ensures)) _
+    lookup_no_cell c.args.book.now c.args.cell _ c.examine.ensures _ c.in_ok-seen.was c.from.result (search (rules, of_calls, c.from.ensures, c.map_or-cells.ensures)) _
     c.in_err-when.ensures _ c.from_residual-in_err-when.ensures.1
 
 pub entry-requires : goal.entry-requires
-entry-requires c = lookup_good c.args.book.now c.args.cell _ c.examine.ensures _ c.in_ok-examine.was
+entry-requires c = lookup_good c.args.book.now c.args.cell _ c.examine.ensures _ c.in_ok-seen.was
 
 pub returns : goal.returns
 returns c =
-    lookup_newest c.args.book.now c.args.cell _ c.examine.ensures _ c.in_ok-examine.was c.from.result (search (rules, of_calls, c.from.ensures, c.map_or-cells.ensures))
+    lookup_newest c.args.book.now c.args.cell _ c.examine.ensures _ c.in_ok-seen.was c.from.result (search (rules, of_calls, c.from.ensures, c.map_or-cells.ensures))
     c.in_ok-when.ensures _ c.entry.ensures
