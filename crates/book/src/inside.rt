@@ -1,6 +1,6 @@
 // A step back inside a book, where something is known already: each gives what `step_back` gives,
 // at less cost. They are why a book is tested and looked up at one pass each.
-// Stays: one for each pass, not `step_back` twice: 104 and 33 instructions a sheet, each 172 by that.
+// Stays: two of their own: with `step_back` in their place a sheet costs 68 more (docs/SPEED.md).
 ghost use Rattle.std.specs.Prelude.{◌≡◌, true, ◌<◌, length};
 ghost use Rattle.sheet.specs.Good.{good};
 ghost use Rattle.book.specs.Sheets.{last_sheet};
