@@ -23,13 +23,10 @@ pub fn part_end(s: &[u8], from: usize, sep: u8) -> usize
     from + rest.iter().position(|b| *b == sep).unwrap_or(rest.len())
 }
 
-fn digit(b: u8) -> Option<u64>
+fn digit(b: u8) -> Option<u32>
     ensures { MatchOption result (is_digit b ≡ false) (λ d. (is_digit b ≡ true) × (d ≡ b - 48) × (d ≤ 9)) }
 {
-    match b {
-        b'0'..=b'9' => Some(u64::from(b - b'0')),
-        _ => None,
-    }
+    char::from(b).to_digit(10)
 }
 
 // Whether a word has bytes, and its first is a 0 only if it is the only one.
@@ -50,7 +47,7 @@ pub fn decimal_in(word: &[u8]) -> Option<u64>
     }
     let mut value = 0;
     for b in word {
-        value = (10 * value + digit(*b)?).min(4294967296);
+        value = (10 * value + u64::from(digit(*b)?)).min(4294967296);
     }
     Some(value)
 }
