@@ -64,7 +64,8 @@ pub fn start_in(line: &[u8]) -> Option<Shelf>
     })
 }
 
-// What a line, without its line feed, says as a step, on a shelf of n desks; nothing, where it is bad.
+// What a line, without its line feed, says as a step, on a shelf of n desks; nothing, where it is
+// bad.
 #[tactic(auto, using(crate::proofs::Laws::Reading::steps_read))]
 pub fn step_in(line: &[u8], n: u32) -> Option<Step>
     ensures { said_step result ≡ step_in n (ended line.now) }

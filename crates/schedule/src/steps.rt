@@ -1,5 +1,5 @@
-// The steps, each from the words behind its letter. The last of them is all that is left of the line:
-// with a space in it, it is no number and no content.
+// The steps, each from the words behind its letter. The last of them is all that is left of the
+// line: with a space in it, it is no number and no content.
 ghost use Rattle.std.specs.Prelude.{◌≡◌};
 ghost use Rattle.schedule.specs.Step.{write_in, read_in, deliver_in, desk_in, said_act, said_step};
 ghost use Rattle.schedule.specs.Words.{words};
