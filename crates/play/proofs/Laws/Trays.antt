@@ -5,16 +5,17 @@
 --   tray_same, tray_other       a tray that was laid there is there, and the others are as they were
 --   tray_zeros                  in zeros all trays are clear
 -- Assumes nothing.
-use Prim.Native.Nat.{ℕ, zero, suc, ◌+◌, ◌*◌, ◌-◌, ◌<◌, ◌≤◌}
+use Prim.Native.Nat.{ℕ, suc, ◌+◌, ◌*◌, ◌-◌, ◌<◌, ◌≤◌}
 use mathlib.Core.Path.{◌≡◌, refl, sym, ap, ◌∙◌}
 use mathlib.Core.Bool.{Bool, true, false}
-use mathlib.Core.List.{List, ◌∷◌, ◌++◌, append_assoc}
+use mathlib.Core.List.{List, ◌++◌, append_assoc}
 use native.Mathlib.Omega.{arith}
-use native.Mathlib.Nat.{zero-add, suc-add, mul-le-mul, mul-le-mul_right}
+use native.Mathlib.Nat.{mul-le-mul, mul-le-mul_right}
 use lib.Dec.{ltb}
 use lib.ListN.{length, take, drop, replicate}
 use lib.Seq.{drop-drop}
 use borrow.Author.Tests.{ltb-true, ltb-false}
+use Rattle.std.proofs.lemmas.List.{take-replicate, drop-replicate}
 use Rattle.laying.specs.Laying.{laid_over}
 use Rattle.laying.proofs.Laws.{laid}
 use Rattle.tray.proofs.Laws.Parts.{laid_inside, laid_before, laid_after}
@@ -56,18 +57,5 @@ module _ (size : ℕ) (trays : List ℕ) (p : ℕ) (t : List ℕ) (long : length
           let up : suc p * size ≤ q * size = mul-le-mul_right size (omega arith) in
           ap (take size) (laid_after trays (p * size) t (q * size) (omega arith))
 
-drop_zeros : (a k : ℕ) → drop a (replicate (a + k) 0) ≡ replicate {A = ℕ} k 0
-drop_zeros zero k = ap (λ (i : ℕ). replicate {A = ℕ} i 0) (zero-add k)
-drop_zeros (suc a) k = ap (λ (i : ℕ). drop (suc a) (replicate {A = ℕ} i 0)) (suc-add a k) ∙ drop_zeros a k
-
-take_zeros : (a k : ℕ) → take a (replicate (a + k) 0) ≡ replicate {A = ℕ} a 0
-take_zeros zero k = refl
-take_zeros (suc a) k = ap (λ (i : ℕ). take (suc a) (replicate {A = ℕ} i 0)) (suc-add a k) ∙ ap (λ (xs : List ℕ). 0 ∷ xs) (take_zeros a k)
-
 pub tray_zeros : (size p k : ℕ) → p * size + size ≤ k → tray_in size (replicate k 0) p ≡ replicate size 0
-tray_zeros size p k room =
-    let before : p * size + (k - p * size) ≡ k = omega arith in
-    let behind : size + (k - p * size - size) ≡ k - p * size = omega arith in
-    ap (λ (i : ℕ). tray_in size (replicate i 0) p) (sym before)
-    ∙ ap (take size) (drop_zeros (p * size) (k - p * size) ∙ ap (λ (i : ℕ). replicate {A = ℕ} i 0) (sym behind))
-    ∙ take_zeros size (k - p * size - size)
+tray_zeros size p k room = ap (take size) (drop-replicate (p * size) k 0) ∙ take-replicate size (k - p * size) 0 (omega arith)

@@ -5,6 +5,7 @@
 use Prim.Native.Nat.{ℕ, ◌+◌, ◌≤◌}
 use Rattle.std.proofs.Common as std
 use Rattle.std.proofs.Common.{None, Some}
+use Rattle.std.proofs.lemmas.Option.{none-some}
 use mathlib.Core.Path.{◌≡◌, refl, sym, ap, ◌∙◌, subst}
 use mathlib.Core.Bool.{Bool, true, false, cond, false≢true}
 use mathlib.Core.List.{List, [], ◌∷◌, ◌++◌}
@@ -29,20 +30,6 @@ use Rattle.play.specs.Parts.Lines.{NoneEnded, FirstLine}
 use Rattle.play.specs.Rounds.{too_long, opens, bad_start, run_text, lines_text, printed, Prints}
 use Rattle.play.specs.Parts.Running.{said_shelf, Runs, run_of, Ran, mode_in_force, Starts, shelf_text}
 use Rattle.play.proofs.Laws.Playing.{line_laid, line_end}
-
-some_none : {A : Type 0} {x : A} → ◌≡◌ {A = std.Option A} (Some x) None → ⊥
-some_none {A} e = subst is_some e tt
-  where
-    is_some : std.Option A → Type 0
-    is_some None = ⊥
-    is_some (Some y) = Unit {0}
-
-some_same : {x y : ℕ} → ◌≡◌ {A = std.Option ℕ} (Some x) (Some y) → x ≡ y
-some_same {x} e = ap value e
-  where
-    value : std.Option ℕ → ℕ
-    value None = x
-    value (Some y) = y
 
 -- ---- a shelf whose desks can be opened
 
@@ -84,7 +71,7 @@ module _ (input : List ℕ) where
         start_shut e = by_test (opens (said_shelf shelf)) refl
           where
             by_test : (b : Bool) → opens (said_shelf shelf) ≡ b → lines_text (lines_of input) ≡ bad_start
-            by_test true t = absurd (some_none (sym (ap (λ (c : Bool). cond c (Some (mode_for shelf.mode)) None) t) ∙ sym force_is ∙ e))
+            by_test true t = absurd (none-some _ (sym e ∙ force_is ∙ ap (λ (c : Bool). cond c (Some (mode_for shelf.mode)) None) t))
             by_test false t = by_opening false t
 
         pub starts : (mode : ℕ) → force ≡ Some mode → Starts input (said_shelf shelf) mode rest
@@ -92,13 +79,16 @@ module _ (input : List ℕ) where
           where
             by_test : (b : Bool) → opens (said_shelf shelf) ≡ b → Starts input (said_shelf shelf) mode rest
             by_test true t =
+                let same : ◌≡◌ {A = std.Option ℕ} (Some mode) (Some (mode_for shelf.mode)) =
+                sym e ∙ force_is ∙ ap (λ (c : Bool). cond c (Some (mode_for shelf.mode)) None) t
+                in
                 record {
                   can_open = t;
-                  in_force = some_same (sym e ∙ force_is ∙ ap (λ (c : Bool). cond c (Some (mode_for shelf.mode)) None) t);
+                  in_force = cc;
                   text = by_opening true t;
                   lines = ap (λ (ls : List Line). length ls) first.lines;
                 }
-            by_test false t = absurd (some_none (sym e ∙ force_is ∙ ap (λ (c : Bool). cond c (Some (mode_for shelf.mode)) None) t))
+            by_test false t = absurd (none-some mode (sym (sym e ∙ force_is ∙ ap (λ (c : Bool). cond c (Some (mode_for shelf.mode)) None) t)))
 
 pub ruleset starting = (start_cut, start_bad, start_shut, starts)
 
