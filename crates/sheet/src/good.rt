@@ -6,18 +6,20 @@ use crate::AsEntry;
 use layout::{Entry, Trailer};
 
 // A trailer with `back` bytes before it. What a desk's number is divided by is tested before it is.
+// Stays: returns, and `&` once: as one `&&` expression it takes 48.6 instructions in place of 33.6.
 pub fn good_trailer(t: Trailer, back: usize) -> bool
     ensures { result ≡ good_trailer t back }
 {
-    t.distance == 6 * u16::from(t.entries)
-        && usize::from(t.distance) == back
-        && (1..=16).contains(&t.desks)
-        && (1..=64).contains(&t.cells)
-        && t.sender < t.desks
-        && t.zero6 == 0
-        && t.zero7 == 0
-        && t.turn <= 4294967294
-        && t.turn % u32::from(t.desks) == u32::from(t.sender)
+    if t.distance != 6 * u16::from(t.entries) || usize::from(t.distance) != back {
+        return false;
+    }
+    if !(1..=16).contains(&t.desks) || !(1..=64).contains(&t.cells) {
+        return false;
+    }
+    if t.desks <= t.sender || !((t.zero6 == 0) & (t.zero7 == 0)) {
+        return false;
+    }
+    t.turn <= 4294967294 && t.turn % u32::from(t.desks) == u32::from(t.sender)
 }
 
 // An entry of a sheet with so many cells, whose cell is to be `least` or above: 0 for the first
@@ -55,9 +57,6 @@ pub fn all_good<E: AsEntry>(es: &[E], cells: u8) -> bool
 pub fn good_entries(s: &[u8], n: u8, cells: u8) -> bool
     ensures { result ≡ good_entries_in s.now n cells }
 {
-    let (sixes, _) = s.as_chunks::<6>();
-    match sixes.get(..usize::from(n)) {
-        Some(entries) => all_good(entries, cells),
-        None => false,
-    }
+    let end = 6 * usize::from(n);
+    end <= s.len() && all_good(s[..end].as_chunks::<6>().0, cells)
 }

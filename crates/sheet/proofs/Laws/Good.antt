@@ -17,15 +17,14 @@ use Prim.Native.Nat.{ℕ, zero, suc, ◌+◌, ◌*◌, ◌/◌, ◌-◌, ◌%◌
 use native.Mathlib.Omega.{arith}
 use native.Mathlib.Numerals.{add-one}
 use lib.ListN.{length, get_or, take, drop, drop_of_length-le}
-use Rattle.std.proofs.lemmas.List.{get_or-map}
-use lib.Seq.{drop-cons, take-suc}
+use Rattle.std.proofs.lemmas.List.{get_or-map, drop-take}
+use lib.Seq.{length-take-le, take-take, drop-cons, take-suc}
 use lib.Dec.{eqb, leb, ltb}
 use borrow.Author.Tests.{le-leb, lt-leb, eqb-true, leb-true, leb-false}
 use mir.Syntax.{w32}
 use mir.Val.{to_z}
-use native.Mathlib.Nat.{not-suc-le-zero, le_of_suc-le-suc}
 use Rattle.std.specs.Simd.{first_chunks}
-use Rattle.std.specs.Prelude.{map, slice_range}
+use Rattle.std.specs.Prelude.{map}
 use Rattle.content.specs.Content.{content_of}
 use Rattle.layout.specs.declared.Entry.{Entry}
 use Rattle.layout.specs.declared.Trailer.{Trailer}
@@ -129,19 +128,21 @@ entry_of_six (a ∷ b ∷ c ∷ d ∷ []) = refl
 entry_of_six (a ∷ b ∷ c ∷ d ∷ e ∷ []) = refl
 entry_of_six (a ∷ b ∷ c ∷ d ∷ e ∷ f ∷ l) = refl
 
-sixes_are : (n m : ℕ) (s : List ℕ) → n ≤ m → map entry_of (take n (first_chunks 6 m s)) ≡ entries_of n s
-sixes_are zero m s h = refl
-sixes_are (suc n) zero s h = absurd (not-suc-le-zero h)
-sixes_are (suc n) (suc m) s h = rw (entry_of_six s, sixes_are n m (drop 6 s) (le_of_suc-le-suc h))
+sixes_are : (n : ℕ) (s : List ℕ) → map entry_of (first_chunks 6 n (take (6 * n) s)) ≡ entries_of n s
+sixes_are zero s = refl
+sixes_are (suc n) s =
+    let more : 6 * suc n ≡ 6 + 6 * n = omega arith in
+    let first : take 6 (take (6 + 6 * n) s) ≡ take 6 s = take-take 6 (6 + 6 * n) s (omega arith) in
+    rw (more, first, entry_of_six s, drop-take 6 (6 * n) s) (ap (λ (l : List Entry). entry_of s ∷ l) (sixes_are n (drop 6 s)))
 
 -- what is found of them is found of the bytes
-pub sixes_good : (s : List ℕ) (n cells : ℕ) (all sixes : List (List ℕ)) → all ≡ first_chunks 6 (length s / 6) s → length all ≡ length s / 6
-    → n ≤ length all → sixes ≡ slice_range all 0 n → good_entries cells (map entry_of sixes) ≡ good_entries_in s n cells
-sixes_good s n cells all sixes chunks parts enough are =
-    let none : n - 0 ≡ n = omega arith in
-    let front : sixes ≡ take n (first_chunks 6 (length s / 6) s) = are ∙ rw none (ap (take n) chunks) in
-    ap (λ (l : List (List ℕ)). good_entries cells (map entry_of l)) front
-    ∙ ap (good_entries cells) (sixes_are n (length s / 6) s (omega arith))
+pub sixes_good : (s : List ℕ) (n cells k : ℕ) (sixes : List (List ℕ)) → k ≡ n → 6 * k ≤ length s → sixes ≡ first_chunks 6 (length (take (6 * k) s) / 6) (take (6 * k) s)
+    → good_entries cells (map entry_of sixes) ≡ good_entries_in s n cells
+sixes_good s n cells k sixes is room are =
+    let count : length (take (6 * k) s) / 6 ≡ n = omega (arith, length-take-le (6 * k) s room) in
+    let same : sixes ≡ first_chunks 6 n (take (6 * n) s) = are ∙ rw (count, is) refl in
+    ap (λ (l : List (List ℕ)). good_entries cells (map entry_of l)) same
+    ∙ ap (good_entries cells) (sixes_are n s)
     ∙ sym (rw (le-leb (6 * n) (length s) (omega arith)))
 
 -- ---- good is its two parts
