@@ -1,4 +1,4 @@
--- What the private functions of src/answers.rt write. Nobody need believe it: the public promises are those of specs/Printing.antt.
+-- What the private functions of src/line.rt write. Nobody need believe it: the public promises are those of specs/Printing.antt.
 -- Assumes nothing.
 use Rattle.std.specs.Prelude.{ℕ, List, ◌++◌}
 use Rattle.text.specs.Text.{text}

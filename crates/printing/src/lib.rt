@@ -13,7 +13,6 @@ use answer::Refusal;
 use desk::Answer;
 use line::Line;
 
-mod answers;
 mod line;
 
 // What a step comes to.
