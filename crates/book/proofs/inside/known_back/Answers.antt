@@ -11,7 +11,5 @@ use Rattle.book.proofs.inside.known_back.Goals as goal
 
 pub returns : goal.returns
 returns c =
-    let start = c.in_ok-start.ensures in
     let whole = all_of c.args.up_to.now in
-    rw start.1
-    (step_untested _ _ (omega arith) _ whole _ c.trailer_of-t.ensures start.0 (λ h. ap (λ (l : List ℕ). good (last_sheet l)) (sym whole) ∙ c.requires h) _ c.into.ensures)
+    step_untested _ _ (omega arith) _ whole _ c.trailer_of-t.ensures c.if-place-size.false (λ h. ap (λ (l : List ℕ). good (last_sheet l)) (sym whole) ∙ c.requires h) _ c.into.ensures

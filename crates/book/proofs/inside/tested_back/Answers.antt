@@ -5,4 +5,4 @@ use Rattle.book.proofs.Laws.Stepping.{steps}
 use Rattle.book.proofs.inside.tested_back.Goals as goal
 
 pub returns : goal.returns
-returns c = search (steps, c.in_ok-start.was, c.in_ok-start.ensures, rules)
+returns c = search (steps, rules)
