@@ -18,7 +18,7 @@ fn entry_goes(causal: bool, pkind: &[u8; 64], e: Entry) -> bool
 
 // Puts the first `count` entries of a sheet on the shelf, each that goes there, and counts these.
 // Where the bytes end before so many entries and a trailer do, nothing is put.
-// Stays: kind and day, since a struct of two `&mut` is no plainer for the one caller.
+// Stays: kind and day: the clause `AppliesEntries` names each, before and after.
 pub fn apply(
     causal: bool,
     kind: &mut [u8; 64],

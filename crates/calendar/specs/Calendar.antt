@@ -117,9 +117,11 @@ said_date = said (λ t. t)
 
 -- ---- a date as the programs print it: `1970-01-01`
 
+-- 01, "Calendar": "Years 1901 to 2199": a year has four digits, a month and a day are printed with two
 -- a number with zeros before it, up to so many digits
 abbrev pub wide : ℕ → ℕ → List ℕ
 wide digits n = replicate (digits - length (decimal n)) 48 ++ decimal n
 
+-- 01, "The shelf": "Day 0 is 1 January 1970", which is printed as 1970-01-01
 abbrev pub shown : Date → List ℕ
 shown t = wide 4 t.year ++ (codes "-" ++ (wide 2 t.month ++ (codes "-" ++ wide 2 t.day)))

@@ -20,8 +20,7 @@ pub struct Entry {
 }
 
 // A trailer as it stands in a sheet.
-// Stays: no `Numbers` stands in it, since its numbers lie apart among the bytes, in this order, and
-// `trailer_of`, `trailer_bytes` and `good_trailer` name each by its place.
+// Stays: no `Numbers` in it: its numbers lie apart (`trailer_bytes`); `good_trailer` names each.
 #[derive(Clone, Copy, Debug, PartialEq, Eq)]
 pub struct Trailer {
     pub distance: u16,

@@ -25,6 +25,7 @@ fn some_of_eight(kinds: &[u8; 64], from: usize) -> bool
 
 // Lays the entry of place i over the buffer from `at` on, where the place is filled; answers where
 // it ends.
+// Stays: the place beside the buffer, of which the clause speaks (`Lays`), here and below.
 fn lay_one(buf: &mut [u8], at: usize, pending: Places, i: usize) -> usize
     requires { at + length (entries_bytes (pending_at pending.kinds.now pending.days.now i)) ≤ length buf.old }
     ensures { Lays buf.old at (entries_bytes (pending_at pending.entry.kinds.now pending.entry.days.now i)) result buf.new }

@@ -19,7 +19,7 @@ fn opened(shelf: Shelf) -> [Desk; 16]
 }
 
 // Plays these lines, and prints from `at` on; answers where the text ends.
-// Stays: the buffer and the place are `put_line`'s.
+// Stays: the buffer and the place: the clause `Ran` names both, as put_line's `wrote` does.
 pub(crate) fn run(steps: &[u8], shelf: Shelf, out: &mut [u8], at: usize) -> usize
     requires { Runs steps.now shelf.n out.old at }
     ensures { Ran (run_of steps.now (said_shelf shelf)) out.old at out.new result }

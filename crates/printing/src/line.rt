@@ -17,6 +17,7 @@ use std::marker::Model;
 // No line is longer.
 const LONGEST: usize = 64;
 
+// Stays: bytes and their count: a String needs a heap, and memory is fixed.
 #[derive(Drop)]
 pub(crate) struct Line {
     bytes: [u8; 64],
@@ -96,6 +97,7 @@ impl Line {
     }
 
     // "`day` and number", "a minus only before a day below 0"
+    // Stays: as at `number`: `write!` of a Content, too, says what it wrote on Ok alone.
     fn day(&mut self, day: i32)
         requires { length self.old + 15 ≤ 64 }
         ensures text { self.new ≡ self.old ++ (text·bytes "day " ++ signed_decimal day) }
@@ -109,6 +111,7 @@ impl Line {
     }
 
     // "`blank`, `open` or `day` and number"
+    // Stays: as at `number`: `write!` of a Content, too, says what it wrote on Ok alone.
     fn content(&mut self, c: Content)
         requires { length self.old + 15 ≤ 64 }
         ensures text { self.new ≡ self.old ++ content_text c }

@@ -29,6 +29,7 @@ good_entries cells es = rising es && every (below cells) es && every kind_and_da
 abbrev pub good_entries_in : List ℕ → ℕ → ℕ → Bool
 good_entries_in s n cells = leb (6 * n) (length s) && good_entries cells (entries_of n s)
 
+-- 01, "A sheet and its trailer": "6 bytes each .. cell (1), kind (1: 1 open, 2 day), day (4, .."
 -- an entry as it is on the line, where a day has 32 bits: the entry itself, if its day has no more, as in every value of the code
 abbrev pub in_32_bits : Entry → Entry
 in_32_bits e = record { cell = e.cell; kind = e.kind; day = e.day % 4294967296 }

@@ -6,7 +6,7 @@ use crate::AsEntry;
 use layout::{Entry, Trailer};
 
 // A trailer with `back` bytes before it. What a desk's number is divided by is tested before it is.
-// Stays: returns, and `&` once: as one `&&` expression it takes 48.6 instructions in place of 33.6.
+// Stays: returns: 33.6, as one `&&` 48.6: a book's sheet would take 114; it has 99 (docs/SPEED.md).
 pub fn good_trailer(t: Trailer, back: usize) -> bool
     ensures { result ≡ good_trailer t back }
 {

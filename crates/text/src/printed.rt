@@ -5,6 +5,7 @@ ghost use Rattle.text.specs.Decimal.{decimal};
 
 // Lays the digits of k over the buffer from `at` on, where they have room, and answers how many there
 // are: 10 at most.
+// Stays: the place beside the buffer, of which the clause speaks (`laid_over`).
 pub fn put_decimal(buf: &mut [u8], at: usize, k: u32) -> usize
     ensures buf_after { buf.new ≡ laid_over buf.old at (decimal k) }
     ensures value { result ≡ length (decimal k) }

@@ -10,7 +10,8 @@ ghost use Rattle.tray.specs.Tray.{length_at, free, zeros, place_of, held_in, cle
 
 use layout::Numbers;
 
-// What is in a place. Stays: three cases of its own, of which a take answers 20, 21 or the numbers.
+// What is in a place.
+// Stays: three cases of its own: by `place_of` a take answers 20, 21 or the numbers.
 #[derive(Clone, Copy, Debug, PartialEq, Eq)]
 pub enum Place {
     // The first two bytes are zero.
@@ -44,6 +45,7 @@ pub fn is_free(tray: &[u8], q: u8) -> bool
 }
 
 // All are looked at, so that the compiler can take many at a time.
+// Stays: the loop: 20 for 64 bytes, `any` 130 (cells): up to 660 more a take, past 3% of its 2,686.
 fn all_zeros(s: &[u8]) -> bool
     ensures { result ≡ zeros s.now }
 {
