@@ -13,7 +13,7 @@ use layout::Entry;
 fn entry_goes(causal: bool, pkind: &[u8; 64], e: Entry) -> bool
     ensures { result ≡ goes causal pkind.now e }
 {
-    causal || pkind.get(e.cell as usize).copied().unwrap_or(0) == 0
+    causal || cells::at(pkind, usize::from(e.cell), 0) == 0
 }
 
 // Puts the first `count` entries of a sheet on the shelf, each that goes there, and counts these.

@@ -19,10 +19,7 @@ use mir.Val.{Fits}
 use lib.ListN.{length, get_or, set, length-set}
 use lib.Seq.{get_or-set_same, get_or-set_other}
 use borrow.Author.Tests.{lt-ltb, le-ltb, ltb-true, ltb-false, eqb-true, eqb-false}
-use Rattle.std.proofs.Common.{Bor, Option}
-use Rattle.std.proofs.lemmas.List.{get_or_past}
-use Rattle.std.specs.Option.{unwrap_or, option_copied}
-use Rattle.std.specs.Slice.{IsItemAt}
+use Rattle.std.proofs.lemmas.List.{get_or_past, get_or_default}
 use Rattle.cells.specs.Cells.{place_at, filled, put_if, each, anywhere, count}
 
 -- ---- one place, as the code reads and puts it
@@ -36,6 +33,10 @@ module _ {A : Type 0} (none : A) (l : List A) (i : ℕ) where
   unfolding place_at
   no_place h = rw (le-ltb i 64 h)
 
+  -- in an array of 64 elements, whatever else it would give past them
+  pub got : (d : A) → length l ≡ 64 → i < 64 → get_or l i d ≡ place_at none l i
+  got d long h = get_or_default l i d none (omega arith) ∙ in_place h
+
   -- in an array of 64 elements: past them `get_or` gives `none` too
   pub place_read : length l ≡ 64 → get_or l i none ≡ place_at none l i
   place_read long = by_place (ltb i 64) refl
@@ -43,10 +44,6 @@ module _ {A : Type 0} (none : A) (l : List A) (i : ℕ) where
       by_place : (t : Bool) → ltb i 64 ≡ t → get_or l i none ≡ place_at none l i
       by_place true e = in_place (ltb-true i 64 e)
       by_place false e = let beyond : length l ≤ i = omega (arith, long, ltb-false i 64 e) in get_or_past l i none beyond ∙ no_place (ltb-false i 64 e)
-
-  -- as `get`, `copied` and `unwrap_or` of std read it
-  pub place_got : length l ≡ 64 → (r : Option (Bor A)) → IsItemAt l i r → {o : Option A} → o ≡ option_copied r → {x : A} → x ≡ unwrap_or o none → x ≡ place_at none l i
-  place_got long r item o x = x ∙ ap (λ p. unwrap_or p none) o ∙ item.4 (omega arith) none ∙ place_read long
 
 module _ {A : Type 0} (l : List A) (i : ℕ) (x : A) where
   pub put_on : {on : Bool} → on ≡ true → i < 64 → set l i x ≡ put_if on l i x

@@ -3,7 +3,7 @@
 #![tactic(auto)]
 
 ghost use Rattle.std.specs.Prelude.{◌≡◌};
-ghost use Rattle.cells.specs.Cells.{kind_at, day_at, content_at, filled, anywhere, count, put_if};
+ghost use Rattle.cells.specs.Cells.{place_at, kind_at, day_at, content_at, filled, anywhere, count, put_if};
 
 use content::Content;
 
@@ -14,21 +14,53 @@ pub struct Places<'a> {
     pub days: &'a [i32; 64],
 }
 
-impl<'a> Places<'a> {
+// What an array of kinds or of days has in place i; past the places there is none, and `none` says
+// so.
+pub fn at<T: Copy>(places: &[T; 64], i: usize, none: T) -> T
+    ensures { result ≡ place_at none places.now i }
+{
+    if i < 64 { places[i] } else { none }
+}
+
+// Whether any of the places is filled.
+#[tactic(auto, using(crate::proofs::Laws::scans))]
+pub fn any_filled(kinds: &[u8; 64]) -> bool
+    ensures { result ≡ anywhere 64 (filled kinds.now) }
+{
+    let mut any = false;
+    // Stays: no `any`, which takes 130 instructions for 20: a read would miss its bar (docs/SPEED.md).
+    for kind in kinds {
+        any |= *kind != 0;
+    }
+    any
+}
+
+// How many of the places are filled.
+#[tactic(auto, using(crate::proofs::Laws::scans))]
+pub fn count_filled(kinds: &[u8; 64]) -> u8
+    ensures { result ≡ count 64 (filled kinds.now) }
+{
+    let mut n = 0;
+    // Stays: no `filter` and `count`, which take 455 for 36: a send would miss its bar (docs/SPEED.md).
+    for kind in kinds {
+        n += u8::from(*kind != 0);
+    }
+    n
+}
+
+impl Places<'_> {
     // The kind in place i; past the places there is none, and 0 says so.
     pub fn kind(self, i: usize) -> u8
         ensures { result ≡ kind_at self.entry.kinds.now i }
     {
-        let kinds = self.kinds;
-        kinds.get(i).copied().unwrap_or(0)
+        at(self.kinds, i, 0)
     }
 
     // The day's number in place i.
     pub fn day(self, i: usize) -> i32
         ensures { result ≡ day_at self.entry.days.now i }
     {
-        let days = self.days;
-        days.get(i).copied().unwrap_or(0)
+        at(self.days, i, 0)
     }
 
     // The content in place i.
@@ -36,32 +68,6 @@ impl<'a> Places<'a> {
         ensures { result ≡ content_at self.entry.kinds.now self.entry.days.now i }
     {
         Content::of(self.kind(i), self.day(i))
-    }
-
-    // Whether any of the places is filled.
-    #[tactic(auto, using(crate::proofs::Laws::scans))]
-    pub fn any_filled(self) -> bool
-        ensures { result ≡ anywhere 64 (filled self.entry.kinds.now) }
-    {
-        // Stays: to the last place, which takes 20 instructions; `any` takes 130.
-        let mut any = false;
-        for kind in self.kinds {
-            any |= *kind != 0;
-        }
-        any
-    }
-
-    // How many of the places are filled.
-    #[tactic(auto, using(crate::proofs::Laws::scans))]
-    pub fn count_filled(self) -> u8
-        ensures { result ≡ count 64 (filled self.entry.kinds.now) }
-    {
-        // Stays: a sum, which takes 36 instructions; `filter` and `count` take 455.
-        let mut n = 0;
-        for kind in self.kinds {
-            n += u8::from(*kind != 0);
-        }
-        n
     }
 }
 

@@ -124,7 +124,7 @@ impl Desk {
         self.head.mode == 1
             && self.pending().kind(cell as usize) == 0
             && !self.head.own_turn()
-            && self.pending().any_filled()
+            && cells::any_filled(&self.pkind)
     }
 
     pub(crate) fn answer_cell(&mut self, cell: u32) -> Result<Answer, Refusal>

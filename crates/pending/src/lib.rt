@@ -74,7 +74,7 @@ fn lay_all(buf: &mut [u8], pending: Places)
 pub fn write_sheet(buf: &mut [u8], h: Head, pending: Places) -> Result<u8, Refusal>
     ensures { Sends h pending.entry.kinds.now pending.entry.days.now buf.old result buf.new }
 {
-    let count = pending.count_filled();
+    let count = cells::count_filled(pending.kinds);
     let back = 6 * (count as usize);
     Refusal::BufferShort.when(buf.len() < back + 12)?;
     lay_all(buf, pending);

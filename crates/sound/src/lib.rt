@@ -63,7 +63,7 @@ impl Head {
         self.mode == 1
             && cell < self.m
             && pending.kind(cell as usize) == 0
-            && pending.any_filled()
+            && cells::any_filled(pending.kinds)
             && !self.own_turn()
     }
 }
