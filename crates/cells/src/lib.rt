@@ -28,7 +28,7 @@ pub fn any_filled(kinds: &[u8; 64]) -> bool
     ensures { result ≡ anywhere 64 (filled kinds.now) }
 {
     let mut any = false;
-    // Stays: no `any`, which takes 130 instructions for 20: a read would miss its bar (docs/SPEED.md).
+    // Stays: to the last place, in 20 instructions; `any` stops early, and takes 130.
     for kind in kinds {
         any |= *kind != 0;
     }
@@ -41,7 +41,7 @@ pub fn count_filled(kinds: &[u8; 64]) -> u8
     ensures { result ≡ count 64 (filled kinds.now) }
 {
     let mut n = 0;
-    // Stays: no `filter` and `count`, which take 455 for 36: a send would miss its bar (docs/SPEED.md).
+    // Stays: a sum, in 36 instructions; `filter` and `count` take 455: a send would miss its bar.
     for kind in kinds {
         n += u8::from(*kind != 0);
     }
