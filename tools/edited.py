@@ -97,9 +97,10 @@ class Edit:
         self.key = f'{crate} {function}: {words(text[start:end])} → {words(after[start:end + len(after) - len(text)])}'.strip()
         inside = pathlib.PurePath(*path.parts[2:])
         self.places = {f'{inside}:{line}' for line in lines}
-        # the module, but for the crate's own, and a type if it is a method; a closure of it has a longer name
-        module = [] if inside.stem in ('lib', 'main') else [*inside.parts[1:-1], inside.stem]
-        self.named = re.compile('::'.join(map(re.escape, [crate, *module])) + rf'::(?:[A-Z]\w*::)?{re.escape(function)}(?:$|::|\+)')
+        # the module, but for the crate's own, and a type if it is a method; a method of a type of the crate's own module has that type's
+        # name alone, in whatever file it stands; a closure of it has a longer name
+        module = '' if inside.stem in ('lib', 'main') else '::'.join([*inside.parts[1:-1], inside.stem, ''])
+        self.named = re.compile(rf'{crate}::(?:{module}(?:[A-Z]\w*::)?|[A-Z]\w*::){re.escape(function)}(?:$|::|\+)')
         self.is_constant = function.isupper()
 
     def own(self, names):
