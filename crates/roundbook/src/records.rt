@@ -67,6 +67,7 @@ impl<'a> Records<'a> {
         ensures { OnSome result (length self.new.rest.now < length self.old.rest.now) }
     {
         let [letter] = self.array::<1>()?;
+        // Stays: a match: it reads a byte of the input, and makes a case of an enum of it.
         match letter {
             b's' => Some(Record::Sheets(self.book()?)),
             b'c' => Some(Record::Count(self.book()?)),

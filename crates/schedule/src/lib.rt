@@ -71,6 +71,7 @@ pub fn step_in(line: &[u8], n: u32) -> Option<Step>
     ensures { said_step result ≡ step_in n (ended line.now) }
 {
     let (letter, rest) = words::cut(line)?;
+    // Stays: a match: it reads a word of a text, and a table of functions says no more.
     match letter {
         b"w" => steps::write_in(rest, n),
         b"r" => steps::read_in(rest, n),

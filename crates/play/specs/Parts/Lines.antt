@@ -1,4 +1,4 @@
--- What the functions of src/lines.rt find. Nobody need believe it: the public promise is that of specs/Rounds.antt.
+-- What the functions of src/first.rt find. Nobody need believe it: the public promise is that of specs/Rounds.antt.
 -- Assumes nothing.
 use Rattle.std.specs.Prelude.{ℕ, ◌<◌, ◌≡◌, List, [], ◌∷◌, length}
 use Rattle.std.proofs.Math.Option.{none, some}
