@@ -1,2 +1,3 @@
+pub mod Rules
 pub mod Next
 pub mod Looks

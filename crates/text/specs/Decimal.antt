@@ -1,7 +1,8 @@
 -- 01, "The program `rounds`": "decimal without leading zeros".
 -- Assumes nothing.
-use Rattle.std.specs.Prelude.{ℕ, zero, suc, ◌+◌, ◌*◌, ◌-◌, ◌/◌, ◌%◌, min, Bool, true, false, cond, not, ◌&&◌, ◌||◌, List, [], ◌∷◌, eqb, leb, ltb, ℤ, pos, negsuc, length, Option, None, Some}
-use Rattle.text.specs.Separated.{minus}
+use Rattle.std.specs.Prelude.{ℕ, zero, suc, ◌+◌, ◌*◌, ◌-◌, ◌/◌, ◌%◌, min, Bool, true, false, cond, not, ◌&&◌, ◌||◌, List, [], ◌∷◌, eqb, leb, ltb, ℤ, pos, negsuc, length, drop, Option, None, Some}
+use Rattle.text.specs.Separated.{minus, first_part}
+use Rattle.text.specs.declared.Decimal.{Decimal}
 
 -- ---- read
 
@@ -35,6 +36,13 @@ beyond = 4294967296
 -- the number that a word is, if it is decimal: no more than `beyond`, which stands for every number beyond 32 bits
 unfoldable pub decimal_in : List ℕ → Option ℕ
 decimal_in word = cond (is_decimal word) (Some (min (value word) beyond)) None
+
+-- the word that stands from `from` on, up to the next separator: whether it is decimal, its value (no more than `beyond`, which stands for every
+-- number beyond 32 bits), and where it ends
+unfoldable pub decimal_at : ℕ → List ℕ → ℕ → Decimal
+decimal_at sep s from =
+    let word = first_part sep (drop from s) in
+    record { ok = is_decimal word; value = min (value word) beyond; end = from + length word }
 
 -- ---- printed
 

@@ -1,17 +1,26 @@
 // A text in bytes: where its parts end, and numbers in decimal, read and printed. 01, "The program
 // `rounds`": "Single spaces, decimal without leading zeros".
 //
-// Every public function takes every text, and `part_end` every place in it, also one past the end,
-// where there is nothing.
+// Every public function takes every text, and `part_end` and `decimal_at` every place in it, also one
+// past the end, where there is nothing.
 #![tactic(auto)]
 
-ghost use Rattle.std.specs.Prelude.{◌≡◌, ◌+◌, ◌-◌, ◌≤◌, true, false, length, drop, MatchOption};
+ghost use Rattle.std.specs.Prelude.{◌≡◌, ◌+◌, ◌-◌, ◌≤◌, min, true, false, length, drop, MatchOption};
 ghost use Rattle.text.specs.Separated.{first_part};
-ghost use Rattle.text.specs.Decimal.{is_digit, no_leading_zero, decimal_in};
+ghost use Rattle.text.specs.Decimal.{is_digit, no_leading_zero, value, beyond, decimal_in, decimal_at};
 
 mod printed;
 
 pub use printed::put_decimal;
+
+// A word that should be a number: whether it is decimal without leading zeros, its value, which is
+// 4,294,967,296 for every number beyond 32 bits, and where the word ends.
+#[derive(Clone, Copy)]
+pub struct Decimal {
+    pub ok: bool,
+    pub value: u64,
+    pub end: usize,
+}
 
 // Where the part ends that starts at `from`: at the next separator, or where the text ends.
 pub fn part_end(s: &[u8], from: usize, sep: u8) -> usize
@@ -50,4 +59,36 @@ pub fn decimal_in(word: &[u8]) -> Option<u64>
         value = (10 * value + u64::from(digit(*b)?)).min(4294967296);
     }
     Some(value)
+}
+
+// The value of a word, also of one that is no number: each byte is worth what it is above `0`, and
+// nothing below it. 4,294,967,296 for every number beyond 32 bits.
+#[tactic(auto, using(crate::proofs::Laws::Decimal::value_loop))]
+fn value_in(word: &[u8]) -> u64
+    ensures { result ≡ min (value word.now) beyond }
+{
+    let mut value = 0;
+    for b in word {
+        value = (10 * value + u64::from(b.saturating_sub(b'0'))).min(4294967296);
+    }
+    value
+}
+
+// The word that stands from `from` on, up to the next separator.
+pub fn decimal_at(s: &[u8], from: usize, sep: u8) -> Decimal
+    ensures { result ≡ decimal_at sep s.now from }
+{
+    let end = part_end(s, from, sep);
+    let Some(word) = s.get(from..end) else {
+        return Decimal {
+            ok: false,
+            value: 0,
+            end,
+        };
+    };
+    Decimal {
+        ok: decimal_in(word).is_some(),
+        value: value_in(word),
+        end,
+    }
 }
