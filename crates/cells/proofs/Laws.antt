@@ -1,5 +1,5 @@
 -- Laws of the places of a record's arrays (specs/Cells.antt).
---   places                                  a set for `search`: one place read, and one put, by each test of the code
+--   reads, places                           sets: one place read, and one put, by each test of the code
 --   place_put, place_kept, place_length     what stands in a place after a put, and how long the array is
 --   each_at, each_if, each_both             what a test of each place says of one
 --   some_at, some_if, none_if               what a test of some place says
@@ -34,8 +34,8 @@ module _ {A : Type 0} (none : A) (l : List A) (i : ℕ) where
   no_place h = rw (le-ltb i 64 h)
 
   -- in an array of 64 elements, whatever else it would give past them
-  pub got : (d : A) → length l ≡ 64 → i < 64 → get_or l i d ≡ place_at none l i
-  got d long h = get_or_default l i d none (omega arith) ∙ in_place h
+  pub got : (d : A) (j : ℕ) → length l ≡ 64 → i < 64 → j ≡ i → get_or l j d ≡ place_at none l i
+  got d j long h at = rw at (get_or_default l i d none (omega arith) ∙ in_place h)
 
   -- in an array of 64 elements: past them `get_or` gives `none` too
   pub place_read : length l ≡ 64 → get_or l i none ≡ place_at none l i
@@ -44,6 +44,8 @@ module _ {A : Type 0} (none : A) (l : List A) (i : ℕ) where
       by_place : (t : Bool) → ltb i 64 ≡ t → get_or l i none ≡ place_at none l i
       by_place true e = in_place (ltb-true i 64 e)
       by_place false e = let beyond : length l ≤ i = omega (arith, long, ltb-false i 64 e) in get_or_past l i none beyond ∙ no_place (ltb-false i 64 e)
+
+pub ruleset reads = (got, no_place)
 
 module _ {A : Type 0} (l : List A) (i : ℕ) (x : A) where
   pub put_on : {on : Bool} → on ≡ true → i < 64 → set l i x ≡ put_if on l i x

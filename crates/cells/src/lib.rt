@@ -16,6 +16,7 @@ pub struct Places<'a> {
 
 // What an array of kinds or of days has in place i; past the places there is none, and `none` says
 // so.
+#[tactic(auto, using(crate::proofs::Laws::reads))]
 pub fn at<T: Copy>(places: &[T; 64], i: usize, none: T) -> T
     ensures { result ≡ place_at none places.now i }
 {

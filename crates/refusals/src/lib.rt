@@ -60,7 +60,7 @@ pub fn write(ok: bool, h: Head, cell: u32, kind: u8) -> Result<(), Refusal>
     ensures { said (λ u. u) result ≡ first_of (write_tests ok h cell kind) }
 {
     sound(ok)?;
-    cell_below(h, cell)?;
+    cell_below(h, cell)?; // before 7: past the shelf a write of blank gets 6
     Refusal::BlankWritten.when(kind == 0)?;
     no_read_waits(h)?;
     Ok(())
@@ -71,7 +71,7 @@ pub fn read(ok: bool, h: Head, cell: u32) -> Result<(), Refusal>
     ensures { said (λ u. u) result ≡ first_of (read_tests ok h cell) }
 {
     sound(ok)?;
-    cell_below(h, cell)?;
+    cell_below(h, cell)?; // before 8: past the shelf it is 6, whether or not a read waits
     no_read_waits(h)?;
     Ok(())
 }
@@ -80,7 +80,7 @@ pub fn read(ok: bool, h: Head, cell: u32) -> Result<(), Refusal>
 pub fn send(ok: bool, h: Head) -> Result<(), Refusal>
     ensures { said (λ u. u) result ≡ first_of (send_tests ok h) }
 {
-    sound(ok)?;
+    sound(ok)?; // before 9: only a sound record says whose turn it is
     Refusal::TurnElsewhere.when(!h.own_turn())?;
     turn_to_come(h)?;
     Ok(())
@@ -90,7 +90,7 @@ pub fn send(ok: bool, h: Head) -> Result<(), Refusal>
 pub fn tray(ok: bool, h: Head, size: usize) -> Result<(), Refusal>
     ensures { said (λ u. u) result ≡ first_of (tray_tests ok h size) }
 {
-    sound(ok)?;
+    sound(ok)?; // before 12: only a sound record says how many desks there are
     Refusal::TrayLength.when(size != 398 * usize::from(h.n))?;
     Ok(())
 }

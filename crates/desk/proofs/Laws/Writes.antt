@@ -57,14 +57,15 @@ module _ (d : Desk) (cell : ℕ) (c : Content) {ok : Bool} {kind : ℕ} (s : ok 
 
   pub stored_so :
       {u : Unit {0}} → answered u ≡ first_of (write_tests ok d.head cell kind)
-      → {day : ℤ} {ks pks : List ℕ} {ds pds : List ℤ}
+      → {day : ℤ} {i : ℕ} {ks pks : List ℕ} {ds pds : List ℤ}
       → day ≡ day_of c
-      → ks ≡ put_if true d.kind cell kind → ds ≡ put_if true d.day cell day
-      → pks ≡ put_if true d.pkind cell kind → pds ≡ put_if true d.pday cell day
+      → ks ≡ put_if true d.kind i kind → ds ≡ put_if true d.day i day
+      → pks ≡ put_if true d.pkind i kind → pds ≡ put_if true d.pday i day
+      → i ≡ cell
       → settled (Ok answers.Stored) (record { head = d.head; kind = ks; day = ds; pkind = pks; pday = pds }) [] ≡ write_of d cell c
   unfolding write_of
-  stored_so e z ks ds pks pds =
-      rw (ks, ds, pks, pds, z, k) (done_so (write_rules d cell c) d [] stored (written_desk d cell c) [] answers.Stored refl (silent_if_said (write_rules d cell c) (e ∙ rw (s, k))))
+  stored_so e z ks ds pks pds at =
+      rw (ks, ds, pks, pds, at, z, k) (done_so (write_rules d cell c) d [] stored (written_desk d cell c) [] answers.Stored refl (silent_if_said (write_rules d cell c) (e ∙ rw (s, k))))
 
 -- ---- read
 
