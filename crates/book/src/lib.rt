@@ -38,6 +38,7 @@ pub struct Found {
 
 // One step back from a place: the good sheet that ends just there. "A step back gives none at the
 // front or where no good sheet ends", nor beyond the book.
+#[tactic(auto, using(crate::proofs::Laws::Stepping::back_steps))]
 pub fn step_back(book: &[u8], place: usize) -> Option<Back>
     ensures { result ≡ step_back book.now place }
 {

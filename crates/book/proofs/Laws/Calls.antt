@@ -1,12 +1,13 @@
 -- Laws of the calls (specs/Counting.antt, specs/Lookup.antt, specs/Adding.antt), by what one pass
 -- through the book finds.
 --   told_bad, told_good            what it says of the book
---   counted, cells_are             how many sheets and cells the code takes from it
---   lookup_answers                 a lookup, by them
---   add_not_good .. add_laid      what `add` answers and leaves, by what it knows at each of its returns
+--   counted, its_cells             how many sheets and cells the code takes from it
+--   count_bad .. lookup_newest     what `count` and `lookup` answer at each of their returns
+--   read_is                        what the sheet's reading gives, by `good` alone
+--   add_not_good .. add_laid       what `add` answers and leaves, by what it knows at each of its returns
 -- Assumes nothing.
 use mathlib.Core.Path.{◌≡◌, refl, sym, ap, ◌∙◌}
-use mathlib.Core.Bool.{Bool, true, false, not, ◌&&◌, and-true, and-false}
+use mathlib.Core.Bool.{Bool, true, false, cond, not, ◌&&◌, and-true, and-false}
 use mathlib.Core.List.{List, [], ◌∷◌}
 use Prim.Native.Nat.{ℕ, ◌+◌, ◌-◌, ◌≤◌}
 use native.Mathlib.Omega.{arith}
@@ -25,7 +26,7 @@ use Rattle.laying.proofs.Laws.{laid}
 use Rattle.numbers.proofs.Tests.{and_left, tested}
 use Rattle.sheet.specs.Good.{good}
 use Rattle.sheet.specs.Reading.{Sheet, reading_of, said_read}
-use Rattle.sheet.proofs.Laws.Reading.{bad_read, said_good, said_bad}
+use Rattle.sheet.proofs.Laws.Reading.{good_read, bad_read, said_good, said_bad, said_read_tells_apart}
 use Rattle.book.specs.declared.examined.Seen.{Seen}
 use Rattle.book.specs.declared.Found.{Found}
 use Rattle.book.specs.Sheets.{sheets_of}
@@ -70,6 +71,14 @@ counted (s ∷ ss) o is n h = rw is at h
 its_cells : (ss : List (List ℕ)) (o : Option Seen) → o ≡ sheets_found ss → (m : ℕ) → MatchOption o (m ≡ 64) (λ s. m ≡ s.newest.cells) → m ≡ cells_of ss
 its_cells [] o is m h = rw is at h
 its_cells (s ∷ ss) o is m h = rw is at h
+
+-- what a reading of the sheet gives
+pub read_is : (s : List ℕ) (r : Result Numbers Refusal) → said_read s r ≡ reading_of s → r ≡ cond (good s) (Ok (numbers_in s)) (Err refusal.SheetNotGood)
+read_is s r said = by_test (good s) refl
+  where
+    by_test : (g : Bool) → good s ≡ g → r ≡ cond g (Ok (numbers_in s)) (Err refusal.SheetNotGood)
+    by_test true g = said_read_tells_apart s r (Ok (numbers_in s)) (said ∙ good_read s g)
+    by_test false g = said_read_tells_apart s r (Err refusal.SheetNotGood) (said ∙ bad_read s g)
 
 -- ---- count, lookup
 

@@ -1,7 +1,8 @@
 -- Laws of `step_back` (specs/Stepping.antt).
 --   part_is                        the last sheet up to a place is a part of the book
 --   step_sheet, step_none          what a step gives, by `good` alone
---   steps, step_good, step_bad     the code of a step: a set for `search`, and what it answers when the sheet was read
+--   steps, back_steps              sets of the laws of a step's code: where something is known already, and in `step_back` itself
+--   step_good, step_bad            what it answers when the sheet was read; read_good, read_bad by where the code found its start
 --   step_known, step_untested      what it answers where the sheet is known to be good
 --   Stepped, stepped               what is so where a step gave a sheet: it is the last of those up to the place, and the others end at its start
 --   stepped_none                   where it gave none within the book, the last sheet up to the place is not good
@@ -147,6 +148,14 @@ module _ (b : List ℕ) (place : ℕ) where
           pub step_bad : None ≡ result_ok r → None ≡ step_back b place
           step_bad e = let x = was_refused r e in step_none (sym (ap good is_part) ∙ said_bad part r x.0 x.1 said)
 
+        -- the same of the part that the code reads, from a start that it has found
+        module _ (start : ℕ) (is_start : start ≡ place - (t.distance + 12)) (r : Result Numbers Refusal) (said : said_read (take (length u - start) (drop start u)) r ≡ reading_of (take (length u - start) (drop start u))) where
+          pub read_good : (n : Numbers) → Some n ≡ result_ok r → back start place n ≡ step_back b place
+          read_good n e = rw is_start (step_good _ (part_read start is_start) r said n e)
+
+          pub read_bad : None ≡ result_ok r → None ≡ step_back b place
+          read_bad e = step_bad _ (part_read start is_start) r said e
+
         -- the sheet is good exactly if its two parts are
         by_parts : good (last_sheet up_to) ≡ good_trailer t t.distance && good_entries t.cells (entries_of t.entries (last_sheet up_to))
         by_parts =
@@ -183,6 +192,8 @@ module _ (b : List ℕ) (place : ℕ) where
 -- the whole of a slice is what stands up to its end
 pub all_of : (b : List ℕ) → b ≡ take (length b) b
 all_of b = sym (take-length b)
+
+pub ruleset back_steps = (front, step_beyond, step_far, read_good, read_bad)
 
 pub ruleset steps = (all_of, step_beyond, step_short, step_far, tested_trailer, tested_entries, tested_good)
 
