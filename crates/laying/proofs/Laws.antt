@@ -3,6 +3,7 @@
 --   laid_next                      what is laid right behind what was laid at the front is laid at the front too: two puts are one
 --   laid_behind                    the same anywhere in a buffer: what is laid right behind what was laid is laid with it
 --   copied                         a copy into a part of a buffer is the bytes laid over it
+--   puts                           a set: what `put` leaves, with room and without
 -- Assumes nothing.
 use mathlib.Core.Path.{◌≡◌, sym, ap, ◌∙◌}
 use mathlib.Core.List.{List, ◌++◌, append_assoc}
@@ -56,3 +57,5 @@ copied b at x k room long =
     ∙ ap (λ (l : List ℕ). take at b ++ (x ++ l)) (drop-drop (length x) at b)
     ∙ sym (append_assoc (take at b) x (drop (at + length x) b))
     ∙ sym (laid b at x room)
+
+pub ruleset puts = (copied, no_room)

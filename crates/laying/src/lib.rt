@@ -7,6 +7,7 @@ ghost use Rattle.laying.specs.Laying.{laid_over};
 
 // Lays src over the buffer from `at` on; where it has no room there, every byte stays.
 // Stays: a place beside the buffer, and no part of it: `laid_over` says what comes of any place.
+#[tactic(auto, using(crate::proofs::Laws::puts))]
 pub fn put(buf: &mut [u8], at: usize, src: &[u8])
     ensures { buf.new ≡ laid_over buf.old at src.now }
 {

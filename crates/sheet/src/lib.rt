@@ -30,6 +30,7 @@ pub fn read(s: &[u8]) -> Result<Numbers, Refusal>
 
 // The trailer at the end of bytes, for whoever goes back through sheets that stand end to end;
 // zeros, which are of no good sheet, where the bytes are too few.
+#[tactic(auto, using(crate::proofs::Laws::Reading::trailers))]
 pub fn trailer_of(s: &[u8]) -> Trailer
     ensures { result ≡ trailer_at_end s.now }
 {

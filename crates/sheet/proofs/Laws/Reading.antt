@@ -2,7 +2,7 @@
 --   readings                     a set for `search`: what `read` knows at each of its returns, and what it then answers
 --   good_read, bad_read          what reading gives, by `good` alone
 --   said_good, said_bad          what a reading says of `good`
---   trailer_none, trailer_there  what `trailer_of` gives, by the length
+--   trailer_none, trailer_there  what `trailer_of` gives, by the length; trailers, a set with what a slice of all its bytes is
 --   said_read_tells_apart : ReadingsApart (specs/Promises.antt)
 --   entries_in_place : EntriesInPlace (specs/Promises.antt)
 -- Assumes nothing.
@@ -12,7 +12,8 @@ use mathlib.Core.Bool.{Bool, true, false, not, ◌&&◌}
 use Prim.Native.Nat.{ℕ, zero, suc, ◌+◌, ◌*◌, ◌-◌, ◌<◌, ◌≤◌}
 use native.Mathlib.Omega.{arith}
 use native.Mathlib.Nat.{not-suc-le-zero, le_of_suc-le-suc}
-use lib.ListN.{length, get_or}
+use lib.ListN.{length, get_or, take}
+use lib.Seq.{take_all}
 use lib.Dec.{ltb}
 use borrow.Author.Tests.{le-leb, lt-leb, ltb-true, ltb-false, not-true, not-false}
 use Rattle.answer.specs.Answer.{refused, answered, ◌if◌}
@@ -55,6 +56,12 @@ module _ (s : List ℕ) where
   pub trailer_there : 12 ≤ length s → trailer_at_end s ≡ trailer_in s
   unfolding trailer_at_end
   trailer_there h = rw (le-leb 12 (length s) h)
+
+-- bytes that are taken from the front to the end are all of them
+pub all_of : (s : List ℕ) (k : ℕ) → length s ≤ k → take k s ≡ s
+all_of s k h = take_all k s h
+
+pub ruleset trailers = (trailer_none, trailer_there, all_of)
 
 -- ---- as the code goes
 
