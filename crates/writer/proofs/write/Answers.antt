@@ -26,18 +26,18 @@ returns-in_err-when-2 c =
     let fit : NumbersFit c.args.n = record { entries = omega arith; turn = omega arith } in
     let found = (rw c.in_ok-es.ensures.ok_part at c.get.ensures.lookup).0 in
     let first = first_of c.args.n c.args.es.now c.in_ok-es.es.now _ c.from.ensures found.2 found.3 in
-    write_bad_entries _ _ _ fit _ first _ c.from-t.ensures _ c.good_trailer.ensures c.in_ok-when.ensures _ c.all_good.ensures.on_the_line _ c.in_err-when-2.ensures _ (search rules)
+    write_bad_entries _ _ _ fit _ first _ c.from-t.ensures _ c.good_trailer.ensures c.in_ok-when.ensures _ c.all_good.ensures.on_the_line c.in_err-when-2.field-0.0 (grind arith) _ (search rules)
 
 pub returns-in_err-when-3 : goal.returns-in_err-when-3
 returns-in_err-when-3 c =
     let fit : NumbersFit c.args.n = record { entries = omega arith; turn = omega arith } in
     let found = (rw c.in_ok-es.ensures.ok_part at c.get.ensures.lookup).0 in
     let first = first_of c.args.n c.args.es.now c.in_ok-es.es.now _ c.from.ensures found.2 found.3 in
-    write_too_short _ _ _ fit _ first _ c.from-t.ensures _ c.good_trailer.ensures c.in_ok-when.ensures _ c.all_good.ensures.on_the_line c.in_ok-when-2.ensures _ c.in_err-when-3.ensures _ (search rules)
+    write_too_short _ _ _ fit _ first _ c.from-t.ensures _ c.good_trailer.ensures c.in_ok-when.ensures _ c.all_good.ensures.on_the_line (grind arith) _ c.in_err-when-3.ensures _ (search rules)
 
 pub returns : goal.returns
 returns c =
     let fit : NumbersFit c.args.n = record { entries = omega arith; turn = omega arith } in
     let found = (rw c.in_ok-es.ensures.ok_part at c.get.ensures.lookup).0 in
     let first = first_of c.args.n c.args.es.now c.in_ok-es.es.now _ c.from.ensures found.2 found.3 in
-    write_whole _ _ _ fit _ first _ c.from-t.ensures _ c.good_trailer.ensures c.in_ok-when.ensures _ c.all_good.ensures.on_the_line c.in_ok-when-2.ensures c.in_ok-when-3.ensures _ c.put_entries.ensures _ c.put_trailer.ensures
+    write_whole _ _ _ fit _ first _ c.from-t.ensures _ c.good_trailer.ensures c.in_ok-when.ensures _ c.all_good.ensures.on_the_line (grind arith) c.in_ok-when-3.ensures _ c.put_entries.ensures _ c.put_trailer.ensures
