@@ -6,11 +6,14 @@ ghost use Rattle.schedule.specs.Parts.{number, desk_of, mode, day, content};
 use content::Content;
 
 // A line, cut at its first space: the word before it, and what stands behind; nothing, where it has
-// none.
+// none. "Single spaces": a word ends where `part_end` says, as a line does.
 pub(crate) fn cut(line: &[u8]) -> Option<(&[u8], &[u8])>
     ensures { MatchOption result (words line.now ≡ line.now ∷ []) (λ c. words line.now ≡ c.0.now ∷ words c.1.now) }
 {
-    let end = line.iter().position(|b| *b == b' ')?;
+    let end = text::part_end(line, 0, b' ');
+    if line.len() <= end {
+        return None;
+    }
     Some((&line[..end], &line[end + 1..]))
 }
 

@@ -5,7 +5,7 @@
 // past the end, where there is nothing.
 #![tactic(auto)]
 
-ghost use Rattle.std.specs.Prelude.{◌≡◌, ◌+◌, ◌-◌, ◌≤◌, min, true, false, length, drop, MatchOption};
+ghost use Rattle.std.specs.Prelude.{◌≡◌, ◌+◌, ◌*◌, ◌-◌, ◌≤◌, ◌<◌, min, true, false, length, drop, MatchOption};
 ghost use Rattle.text.specs.Separated.{first_part};
 ghost use Rattle.text.specs.Decimal.{is_digit, no_leading_zero, value, beyond, decimal_in, decimal_at};
 
@@ -38,6 +38,14 @@ fn digit(b: u8) -> Option<u32>
     char::from(b).to_digit(10)
 }
 
+// The value with a digit more, or 4,294,967,296 where that is beyond 32 bits.
+fn more(value: u64, d: u64) -> u64
+    requires { (value ≤ beyond) × (d < 256) }
+    ensures { result ≡ min (10 * value + d) beyond }
+{
+    (10 * value + d).min(4294967296)
+}
+
 // Whether a word has bytes, and its first is a 0 only if it is the only one.
 fn no_leading_zero(word: &[u8]) -> bool
     ensures { result ≡ no_leading_zero word.now }
@@ -56,7 +64,7 @@ pub fn decimal_in(word: &[u8]) -> Option<u64>
     }
     let mut value = 0;
     for b in word {
-        value = (10 * value + u64::from(digit(*b)?)).min(4294967296);
+        value = more(value, u64::from(digit(*b)?));
     }
     Some(value)
 }
@@ -69,7 +77,7 @@ fn value_in(word: &[u8]) -> u64
 {
     let mut value = 0;
     for b in word {
-        value = (10 * value + u64::from(b.saturating_sub(b'0'))).min(4294967296);
+        value = more(value, u64::from(b.saturating_sub(b'0')));
     }
     value
 }

@@ -1,13 +1,13 @@
 -- Laws of the words of a line (specs/Words.antt), and of what the functions of src/words.rt answer of one (specs/Parts.antt).
---   cut_here, cut_none                             what `cut` answers
+--   cut_here, cut_none                             what `cut` answers; cuts: both, as a set for `search`
 --   Spaced, by_last                                a text with a space in it is no word of any kind, so the last word may be read in all that is left
 --   one_byte                                       a word of one byte
 --   told, not_told                                 what an answer under a test tells of the test
 -- Assumes nothing.
 use Rattle.std.proofs.Common.{None, Some}
 use Rattle.std.proofs.lemmas.Bool.{false≢true}
-use Rattle.std.specs.List.{position, position_or_len, join_with_byte}
-use Rattle.std.proofs.lemmas.List.Splits.{slice_split_first, join_with_byte-slice_split}
+use Rattle.std.specs.List.{join_with_byte}
+use Rattle.std.proofs.lemmas.List.Splits.{join_with_byte-slice_split}
 use mathlib.Core.Path.{◌≡◌, refl, sym, ap, ◌∙◌}
 use mathlib.Core.List.{List, [], ◌∷◌}
 use mathlib.Core.Bool.{Bool, true, false, cond, ◌&&◌, and-false}
@@ -18,48 +18,39 @@ use native.Mathlib.Omega.{arith}
 use lib.Dec.{eqb, leb, ltb}
 use lib.ListN.{length, get_or, take, drop, length-drop}
 use lib.Seq.{take_all}
-use borrow.Author.Tests.{ltb-true, ltb-false, le-ltb, eqb-true}
+use borrow.Author.Tests.{lt-ltb, le-ltb, eqb-true}
 use Rattle.numbers.specs.Limits.{within}
 use Rattle.numbers.proofs.Tests.{and_split}
 use Rattle.text.specs.Text.{text}
 use Rattle.text.specs.Separated.{parts, first_part, onto_first, space, minus}
 use Rattle.text.specs.Decimal.{is_digit, digits, is_decimal, value}
-use Rattle.text.proofs.Laws.Parts.{parts_split, part_taken, parts_are, first_is}
+use Rattle.text.proofs.Laws.Parts.{behind, parts_split, part_taken, parts_are}
 use Rattle.schedule.specs.Words.{words, same, is, is_number, is_day_word, is_content_word}
 use Rattle.schedule.specs.Start.{mode_in}
 
 -- ---- cut
 
-abbrev is_space : ℕ → Bool
-is_space b = eqb b space
+-- a line, and where its first part ends, as `part_end` says it
+module _ (line : List ℕ) (end : ℕ) (ends : end ≡ 0 + length (first_part space (drop 0 line))) where
+  size : length (first_part space line) ≡ end
+  size = omega (arith, ends)
 
-module _ (line : List ℕ) where
-  -- the place of the first space
-  abbrev place : ℕ
-  place = position_or_len is_space line
+  split : (t : Bool) → ltb end (length line) ≡ t → words line ≡ take end line ∷ cond t (words (drop (end + 1) line)) []
+  split t e =
+      parts_split space line
+      ∙ ap (λ (k : ℕ). first_part space line ∷ behind space line k) size
+      ∙ ap (λ (u : Bool). first_part space line ∷ cond u (words (drop (end + 1) line)) []) e
+      ∙ ap (λ (w : List ℕ). w ∷ cond t (words (drop (end + 1) line)) []) (part_taken space line ∙ ap (λ (k : ℕ). take k line) size)
 
-  pub cut_here : (end : ℕ) → Some end ≡ position is_space line
-      → words line ≡ take end line ∷ words (take (length line - (end + 1)) (drop (end + 1) line))
-  cut_here end e = by_test (ltb place (length line)) refl e
-    where
-      by_test : (t : Bool) → ltb place (length line) ≡ t → Some end ≡ cond t (Some place) None
-          → words line ≡ take end line ∷ words (take (length line - (end + 1)) (drop (end + 1) line))
-      by_test true t e =
-          let there : place < length line = ltb-true place (length line) t in
-          let same_place : end ≡ place = cc in
-          rw (same_place, take_all (length line - (place + 1)) (drop (place + 1) line) (omega (arith, length-drop (place + 1) line)))
-          (parts_are space line ∙ slice_split_first is_space line 0 there ∙ ap (λ (ws : List (List ℕ)). take place line ∷ ws) (sym (parts_are space (drop (place + 1) line))))
-      by_test false t e = absurd (cc)
+  pub cut_here : end < length line → words line ≡ take end line ∷ words (take (length line - (end + 1)) (drop (end + 1) line))
+  cut_here h =
+      split true (lt-ltb end (length line) h)
+      ∙ ap (λ (r : List ℕ). take end line ∷ words r) (sym (take_all (length line - (end + 1)) (drop (end + 1) line) (omega (arith, length-drop (end + 1) line))))
 
-  pub cut_none : None ≡ position is_space line → words line ≡ line ∷ []
-  cut_none e = by_test (ltb place (length line)) refl e
-    where
-      by_test : (t : Bool) → ltb place (length line) ≡ t → None ≡ cond t (Some place) None → words line ≡ line ∷ []
-      by_test true t e = absurd (cc)
-      by_test false t e =
-          let past : length line ≤ length (first_part space line) = omega (arith, first_is space line, ltb-false place (length line) t) in
-          let all : first_part space line ≡ line = part_taken space line ∙ take_all (length (first_part space line)) line past in
-          parts_split space line ∙ ap (λ (t : Bool). first_part space line ∷ cond t (words (drop (length (first_part space line) + 1) line)) []) (le-ltb (length (first_part space line)) (length line) past) ∙ ap (λ (w : List ℕ). w ∷ []) all
+  pub cut_none : length line ≤ end → words line ≡ line ∷ []
+  cut_none h = split false (le-ltb end (length line) h) ∙ ap (λ (w : List ℕ). w ∷ []) (take_all end line h)
+
+pub ruleset cuts = (cut_here, cut_none)
 
 -- ---- the last word
 
