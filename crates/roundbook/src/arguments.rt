@@ -1,4 +1,6 @@
 // The words behind `./register book`.
+ghost use Rattle.std.specs.Prelude.{◌≤◌, length};
+
 use std::rt::Env;
 use std::str::from_utf8;
 
@@ -19,7 +21,9 @@ pub(crate) fn complain<T>(rt: &impl Eprint, line: &str) -> Option<T> {
 
 // Argument i, in the front of the buffer: no bytes where there is no such argument, or it is longer
 // than the buffer.
-pub(crate) fn argument<'a>(rt: &impl Env, i: usize, buf: &'a mut [u8]) -> &'a [u8] {
+pub(crate) fn argument<'a>(rt: &impl Env, i: usize, buf: &'a mut [u8]) -> &'a [u8]
+    ensures { length result.now ≤ length buf.old }
+{
     let len = rt.arg(i, buf).unwrap_or(0);
     &buf[..len]
 }

@@ -1,5 +1,7 @@
 // The book's file, replaced whole. What is to stand in it is written into a file beside it, of its
 // name and `.new`, which is made before the book is read: while it is there, nobody else adds.
+ghost use Rattle.std.specs.Prelude.{◌≤◌, length};
+
 use crate::arguments;
 use std::fs::{OpenFile, OpenOptions};
 use std::io::Write;
@@ -8,7 +10,9 @@ use std::str::from_utf8;
 use std::{fs, io};
 
 // The name of that file: argument 3, and `.new` behind it; no bytes where it has no room.
-fn new_name<'a>(rt: &impl Env, buf: &'a mut [u8]) -> &'a [u8] {
+fn new_name<'a>(rt: &impl Env, buf: &'a mut [u8]) -> &'a [u8]
+    ensures { length result.now ≤ length buf.old }
+{
     let len = arguments::argument(rt, 3, buf).len();
     let Some(end) = buf.get_mut(len..len + 4) else {
         return &[];

@@ -32,38 +32,43 @@ fn book_in<'a>(rt: &impl Runtime, room: &'a mut [u8]) -> Option<&'a [u8]> {
     Some(&room[..len])
 }
 
+// What comes of adding, printed and said.
+fn say_added(rt: &impl Runtime, added: Result<usize, Refusal>) {
+    let refused = answers::say_added(rt, added);
+    let _ = println!(rt);
+    word::ended(rt, refused);
+}
+
 // Adds the sheet to the book with room for so many bytes, and puts the new book in the file's
-// place. A room of so many bytes is lent as it is, or as much of it as there is here.
-fn add_in<R: Runtime>(
-    rt: &R,
-    room: &mut [u8],
-    file: R::File,
-    s: &[u8],
-    size: usize,
-) -> Option<Result<usize, Refusal>> {
+// place; or a line says why not. A room of so many bytes is lent as it is, or as much of it as there
+// is here. A refusal is printed while the file is held: nobody else adds before. The answer is
+// whether the file was replaced.
+fn add_in<R: Runtime>(rt: &R, room: &mut [u8], file: R::File, s: &[u8], size: usize) -> Option<()> {
     let len = book_in(rt, room)?.len();
     let size = size.min(room.len());
     let added = book::add(&mut room[..size], len, s);
-    if let Ok(new) = added {
-        if MOST < new {
-            return arguments::complain(
-                rt,
-                "A book may have 524,288 bytes here, and this one would have more.",
-            );
-        }
-        files::replace(rt, file, room.get(..new)?)?;
+    let Ok(new) = added else {
+        say_added(rt, added);
+        return None;
+    };
+    if MOST < new {
+        return arguments::complain(
+            rt,
+            "A book may have 524,288 bytes here, and this one would have more.",
+        );
     }
-    Some(added)
+    files::replace(rt, file, room.get(..new)?)?;
+    say_added(rt, added);
+    Some(())
 }
 
-// What comes of adding, once the file is replaced or as it was; or a line says why there is none.
 // A sheet has at most 396 bytes, so that 397 show one that is too long.
-fn add(rt: &impl Runtime, room: &mut [u8], size: usize) -> Option<Result<usize, Refusal>> {
+fn add(rt: &impl Runtime, room: &mut [u8], size: usize) -> Option<()> {
     let mut s = [0u8; 397];
     let len = word::read(rt, 4, &mut s)?;
     let file = files::hold(rt)?;
     let added = add_in(rt, room, file, &s[..len], size);
-    if !matches!(added, Some(Ok(_))) {
+    if added.is_none() {
         files::let_go(rt);
     }
     added
@@ -78,11 +83,7 @@ fn answer(rt: &impl Runtime, room: &mut [u8]) -> Option<()> {
             answers::say_back(rt, reader::step_from(book_in(rt, room)?, place));
             false
         }
-        Wanted::Add(size) => {
-            let refused = answers::say_added(rt, add(rt, room, size)?);
-            let _ = println!(rt);
-            refused
-        }
+        Wanted::Add(size) => return add(rt, room, size),
     };
     word::ended(rt, refused);
     Some(())
