@@ -14,17 +14,20 @@ use Prim.Native.Nat.{ℕ}
 use native.Mathlib.Omega.{arith}
 use lib.ListN.{length, get_or, drop}
 use lib.Seq.{drop-append_seam}
+use Rattle.std.specs.Prelude.{Result, Ok, Err}
 use Rattle.answer.specs.Answer.{Answer, refused, answered}
+use Rattle.answer.proofs.Laws as answers
 use Rattle.content.specs.declared.Content.{Content}
 use Rattle.content.specs.declared.Content.TheVariants.{Blank, Open, Day}
-use Rattle.desk.specs.Answers.{Value, opened, stored, holds, waits, sent, held, taken, said_answer}
-use Rattle.desk.proofs.Laws.Answers.{said_answer_tells_apart}
+use Rattle.desk.specs.declared.Answer as desk_answer
+use Rattle.desk.specs.Answers.{Value, opened, stored, holds, waits, sent, held, taken}
+use Rattle.desk.proofs.Laws.Answers.{answering, found}
 use Rattle.text.specs.Text.{text}
 use Rattle.text.specs.Separated.{parts, first_part, line_feed, space}
 use Rattle.text.specs.Decimal.{value, decimal, signed_decimal}
 use Rattle.schedule.specs.Words.{is, content_of_word}
 use Rattle.printing.specs.declared.StepAnswer.TheVariants as cases
-use Rattle.printing.specs.StepAnswer.{StepAnswer, of_call, nothing_sent, bad_line}
+use Rattle.printing.specs.StepAnswer.{StepAnswer, of_call, nothing_sent, bad_line, told_answer}
 use Rattle.printing.specs.Printing.{content_text, waited_text, step_answer_text, line_text}
 use Rattle.lines.specs.Line.{spaced}
 use Rattle.lines.specs.Promises.{StepAnswersApart}
@@ -239,8 +242,18 @@ never_alike =
 
 -- ---- the code's enum
 
+-- a call's answer is found by what is told of it
+answer_told : Answer Value → Result desk_answer.Answer ℕ
+answer_told (answered v) = Ok (answering v)
+answer_told (refused k) = Err k
+
+told_back : (r : Result desk_answer.Answer ℕ) → answer_told (told_answer r) ≡ r
+unfolding answer_told
+told_back (Ok a) = ap Ok (found a)
+told_back (Err k) = refl
+
 pub said_step_answer_tells_apart : StepAnswersApart
-said_step_answer_tells_apart (cases.OfCall a) (cases.OfCall b) e = ap cases.OfCall (said_answer_tells_apart a b (same_answer (said_answer a) (said_answer b) e))
+said_step_answer_tells_apart (cases.OfCall a) (cases.OfCall b) e = ap cases.OfCall (answers.apart told_answer answer_told told_back (same_answer (told_answer a) (told_answer b) e))
   where
     same_answer : (x y : Answer Value) → of_call x ≡ of_call y → x ≡ y
     same_answer x y e = cc

@@ -3,7 +3,7 @@
 ghost use Rattle.std.specs.Prelude.{[], ◌≡◌, ◌<◌};
 ghost use Rattle.desk.specs.Calls.{send_of};
 ghost use Rattle.play.specs.Steps.{sheet_room};
-ghost use Rattle.play.specs.Parts.Making.{step_outcome, of_outcome, step_by_send, delivered, make_of, LatestFit, LatestFits, SenderThere};
+ghost use Rattle.play.specs.Parts.Making.{step_outcome, OfOutcome, step_by_send, delivered, make_of, LatestFit, LatestFits, SenderThere};
 
 use desk::{Answer, Desk, Outcome};
 use printing::StepAnswer;
@@ -18,11 +18,11 @@ pub(crate) struct StepOutcome {
 
 // That of a call.
 impl From<Outcome> for StepOutcome {
-    ghost from_gives = { λ o s. s ≡ of_outcome o };
+    ghost from_gives = { λ o s. OfOutcome o s };
 
     fn from(o: Outcome) -> StepOutcome {
         StepOutcome {
-            answer: StepAnswer::OfCall(o.answer),
+            answer: o.answer.into(),
             desk: o.desk,
         }
     }

@@ -6,7 +6,8 @@
 #![tactic(auto)]
 
 ghost use Rattle.std.specs.Prelude.{◌≡◌, ◌+◌, ◌≤◌};
-ghost use Rattle.printing.specs.StepAnswer.{said_step_answer};
+ghost use Rattle.desk.specs.Answers.{said_answer};
+ghost use Rattle.printing.specs.StepAnswer.{of_call, said_step_answer};
 ghost use Rattle.printing.specs.Printing.{wrote, line_text, header_text};
 
 use answer::Refusal;
@@ -18,10 +19,23 @@ mod line;
 // What a step comes to.
 #[derive(Clone, Copy)]
 pub enum StepAnswer {
-    OfCall(Result<Answer, Refusal>),
+    // Stays: a refusal's number: `put_line` takes any, and a `Refusal` has 23.
+    OfCall(Result<Answer, u8>),
     // `d` before the sender has sent.
     NothingSent,
     BadLine,
+}
+
+// What a call answered.
+impl From<Result<Answer, Refusal>> for StepAnswer {
+    ghost from_gives = { λ r s. said_step_answer s ≡ of_call (said_answer r) };
+
+    fn from(r: Result<Answer, Refusal>) -> StepAnswer {
+        match r {
+            Ok(a) => StepAnswer::OfCall(Ok(a)),
+            Err(refusal) => StepAnswer::OfCall(Err(refusal.number())),
+        }
+    }
 }
 
 // "Header: desks, cells, letter of the mode in force (never `-`)."

@@ -1,15 +1,14 @@
 // A line that is being written: its text so far, of 64 bytes at most. To the contracts a line is
 // that text.
 ghost use Rattle.std.specs.Prelude.{◌≡◌, [], ◌++◌, ◌+◌, ◌≤◌, List, ℕ, length, take};
-ghost use Rattle.desk.specs.Answers.{waited_of, value_of, said_answer};
+ghost use Rattle.desk.specs.Answers.{waited_of, value_of};
 ghost use Rattle.text.specs.Text.{text as text·bytes};
 ghost use Rattle.text.specs.Decimal.{decimal, signed_decimal};
-ghost use Rattle.printing.specs.StepAnswer.{said_step_answer};
+ghost use Rattle.printing.specs.StepAnswer.{told_answer, said_step_answer};
 ghost use Rattle.printing.specs.Printing.{letter_text, content_text, waited_text, value_text, answer_text, step_answer_text, wrote};
 ghost use Rattle.printing.specs.Parts.{taken_text};
 
 use crate::StepAnswer;
-use answer::Refusal;
 use content::Content;
 use desk::Answer;
 use std::marker::Model;
@@ -176,14 +175,14 @@ impl Line {
     }
 
     // "any refused call `refused` and its number"
-    fn answer(&mut self, answer: Result<Answer, Refusal>)
+    fn answer(&mut self, answer: Result<Answer, u8>)
         requires { length self.old + 40 ≤ 64 }
-        ensures text { self.new ≡ self.old ++ answer_text (said_answer answer) }
+        ensures text { self.new ≡ self.old ++ answer_text (told_answer answer) }
         ensures few { length self.new ≤ length self.old + 40 }
     {
         match answer {
             Ok(a) => self.value(a),
-            Err(refusal) => self.number("refused ", refusal.number() as u32),
+            Err(number) => self.number("refused ", number as u32),
         }
     }
 

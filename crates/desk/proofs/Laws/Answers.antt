@@ -1,4 +1,5 @@
 -- What an answer says, it alone says.
+--   answering, found                             an answer is found by its value
 --   said_answer_tells_apart : AnswersApart (specs/Promises.antt)
 -- Assumes nothing.
 use mathlib.Core.Path.{◌≡◌, refl}
@@ -10,7 +11,7 @@ use Rattle.desk.specs.declared.Answer.TheVariants as answers
 use Rattle.desk.specs.Answers.{Value, opened, stored, holds, waits, sent, held, taken, value_of}
 use Rattle.desk.specs.Promises.{AnswersApart}
 
-answering : Value → Answer
+pub answering : Value → Answer
 answering opened = answers.Opened
 answering stored = answers.Stored
 answering (holds c) = answers.Holds c
@@ -20,7 +21,7 @@ answering held = answers.Held
 answering (taken t n k none) = answers.Taken t n k None
 answering (taken t n k (some c)) = answers.Taken t n k (Some c)
 
-found : (a : Answer) → answering (value_of a) ≡ a
+pub found : (a : Answer) → answering (value_of a) ≡ a
 unfolding answering
 found answers.Opened = refl
 found answers.Stored = refl

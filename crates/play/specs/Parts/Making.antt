@@ -6,12 +6,11 @@ use Rattle.std.specs.Prelude.{ℕ, ◌+◌, ◌*◌, ◌<◌, ◌≤◌, ◌≡�
 use Rattle.tray.specs.Tray.{length_at, free, sheet_at, held_in}
 use Rattle.desk.specs.declared.Desk.{Desk}
 use Rattle.desk.specs.declared.Outcome.{Outcome}
-use Rattle.desk.specs.Answers.{Done}
+use Rattle.desk.specs.Answers.{Done, said_answer}
 use Rattle.desk.specs.Calls.{write_of, read_of, send_of, deliver_of, take_of}
 use Rattle.runs.specs.Run.{SentSheet, sheet_left}
 use Rattle.schedule.specs.declared.Act.{Act}
 use Rattle.schedule.specs.declared.Act.TheVariants as act
-use Rattle.printing.specs.declared.StepAnswer.TheVariants as cases
 use Rattle.printing.specs.StepAnswer.{StepAnswer, of_call, nothing_sent, said_step_answer}
 use Rattle.play.specs.declared.making.StepOutcome.{StepOutcome}
 use Rattle.play.specs.Steps.{sheet_room}
@@ -28,8 +27,9 @@ abbrev pub step_outcome : StepOutcome → List ℕ → List ℕ → StepDone
 step_outcome o tray latest = record { answer = said_step_answer o.answer; desk = o.desk; tray = tray; latest = latest }
 
 -- the step's outcome where a call has this one
-abbrev pub of_outcome : Outcome → StepOutcome
-of_outcome o = record { answer = cases.OfCall o.answer; desk = o.desk }
+pub record OfOutcome (o : Outcome) (s : StepOutcome) : Type 0 where
+  pub answer : said_step_answer s.answer ≡ of_call (said_answer o.answer)
+  pub desk : s.desk ≡ o.desk
 
 -- a call that is lent neither
 abbrev pub step_by_call : Done → List ℕ → List ℕ → StepDone
