@@ -11,21 +11,22 @@
 
 ghost use Rattle.std.specs.Prelude.{◌<◌, length, IfSome};
 
+use answer::Refusal;
 use arrayvec::ArrayString;
 use content::Content;
-use layout::Entry;
+use layout::{Entry, Numbers};
 use std::fmt;
-use std::fmt::Write;
+use std::fmt::{Display, Write};
 
 // What is said of the bytes of a record.
 #[derive(Clone, Copy)]
 struct Reread<'a>(&'a [u8]);
 
-impl fmt::Display for Reread<'_> {
+impl Display for Reread<'_> {
     fn fmt<W: fmt::Write>(&self, f: &mut fmt::Formatter<W>) -> fmt::Result {
         let n = match sheet::read(self.0) {
             Ok(n) => n,
-            Err(refusal) => return write!(f, "{refusal}"),
+            Err(refusal) => return refusal.fmt(f),
         };
         write!(
             f,
@@ -36,14 +37,22 @@ impl fmt::Display for Reread<'_> {
             let e = sheet::entry_at(self.0, k);
             write!(f, " {} {}", e.cell, e.content())?;
         }
-        // The room is full of 255 at first, so that a zero byte which the writer forgets shows.
-        let mut room = [255; 396];
-        match writer::write(&mut room, n, &entries_again(self.0)) {
-            Ok(len) if room.get(..len) == Some(self.0) => f.write_str(" again"),
-            Ok(_) => f.write_str(" OTHER"),
+        match comes_again(self.0, n) {
+            Ok(true) => f.write_str(" again"),
+            Ok(false) => f.write_str(" OTHER"),
             Err(refusal) => write!(f, " {refusal}"),
         }
     }
+}
+
+// Whether the same bytes come of writing what was read. The room is full of 255 at first, so that a
+// zero byte which the writer forgets shows. A function of its own, or a record that is refused would
+// pay for the room.
+#[inline(never)]
+fn comes_again(s: &[u8], n: Numbers) -> Result<bool, Refusal> {
+    let mut room = [255; 396];
+    let len = writer::write(&mut room, n, &entries_again(s))?;
+    Ok(room.get(..len) == Some(s))
 }
 
 // The entries of a sheet, each made anew from its cell and content. All 64 places are filled, also
