@@ -125,10 +125,12 @@ def rt(folder, *command):
 
 
 def batches(edits):
-    """The edits in groups: in a group is one of a function at most, and one of a constant is alone."""
+    """The edits in groups: in a group is one of a function at most, and one of a constant is alone. Two functions of one name in one
+    file, as two types' `fmt`, are known by that name alone, and count as one."""
     groups = []
     for edit in edits:
-        alike = lambda group: edit.is_constant or any(other.is_constant or edit.path == other.path and edit.places & other.places for other in group)
+        same = lambda other: edit.path == other.path and (edit.function == other.function or edit.places & other.places)
+        alike = lambda group: edit.is_constant or any(other.is_constant or same(other) for other in group)
         group = next((group for group in groups if not alike(group)), None)
         if group is None:
             groups.append(group := [])
