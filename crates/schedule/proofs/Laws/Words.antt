@@ -1,4 +1,7 @@
 -- Laws of the words of a line (specs/Words.antt), and of what the functions of src/words.rt answer of one (specs/Parts.antt).
+--   not_before                                     a test and its contrary
+--   capped_test                                    a test of a capped value is the value's
+--   most_of                                        a value that passed a test is within it
 --   cut_here, cut_none                             what `cut` answers; cuts: both, as a set for `search`
 --   Spaced, by_last                                a text with a space in it is no word of any kind, so the last word may be read in all that is left
 --   one_byte                                       a word of one byte
@@ -10,23 +13,44 @@ use Rattle.std.specs.List.{join_with_byte}
 use Rattle.std.proofs.lemmas.List.Splits.{join_with_byte-slice_split}
 use mathlib.Core.Path.{◌≡◌, refl, sym, ap, ◌∙◌}
 use mathlib.Core.List.{List, [], ◌∷◌}
-use mathlib.Core.Bool.{Bool, true, false, cond, ◌&&◌, and-false}
+use mathlib.Core.Bool.{Bool, true, false, cond, not, ◌&&◌, and-false}
 use mathlib.Core.Option.{Option, none}
-use Prim.Native.Nat.{ℕ, ◌+◌, ◌-◌, ◌<◌, ◌≤◌}
+use Prim.Native.Nat.{ℕ, ◌+◌, ◌-◌, ◌<◌, ◌≤◌, min}
 use Prim.Native.String.{String}
 use native.Mathlib.Omega.{arith}
 use lib.Dec.{eqb, leb, ltb}
 use lib.ListN.{length, get_or, take, drop, length-drop}
 use lib.Seq.{take_all}
-use borrow.Author.Tests.{lt-ltb, le-ltb, eqb-true}
+use borrow.Author.Tests.{ltb-true, ltb-false, leb-true, leb-false, le-leb, lt-leb, lt-ltb, le-ltb, eqb-true}
 use Rattle.numbers.specs.Limits.{within}
-use Rattle.numbers.proofs.Tests.{and_split}
+use Rattle.numbers.proofs.Tests.{and_split, tested}
 use Rattle.text.specs.Text.{text}
 use Rattle.text.specs.Separated.{parts, first_part, onto_first, space, minus}
-use Rattle.text.specs.Decimal.{is_digit, digits, is_decimal, value}
+use Rattle.text.specs.Decimal.{is_digit, digits, is_decimal, value, beyond}
 use Rattle.text.proofs.Laws.Parts.{behind, parts_split, part_taken, parts_are}
 use Rattle.schedule.specs.Words.{words, same, is, is_number, is_day_word, is_content_word}
 use Rattle.schedule.specs.Start.{mode_in}
+
+-- ---- tests
+
+-- a place that is not before another is not below it
+pub not_before : (a b : ℕ) → not (ltb a b) ≡ leb b a
+not_before a b = by_test (ltb a b) refl
+  where
+    by_test : (t : Bool) → ltb a b ≡ t → not t ≡ leb b a
+    by_test true e = sym (lt-leb b a (ltb-true a b e))
+    by_test false e = sym (le-leb b a (ltb-false a b e))
+
+pub capped_test : (v k : ℕ) → k < beyond → leb (min v beyond) k ≡ leb v k
+capped_test v k h = by_test (leb v k) refl
+  where
+    by_test : (t : Bool) → leb v k ≡ t → leb (min v beyond) k ≡ leb v k
+    by_test true e = let l = leb-true v k e in le-leb (min v beyond) k (omega arith) ∙ sym e
+    by_test false e = let l = leb-false v k e in lt-leb (min v beyond) k (omega arith) ∙ sym e
+
+-- what a test leaves to know of a value: a rule for `omega`
+pub most_of : (a : Bool) (v most : ℕ) → a && leb v most ≡ true → v ≤ most
+most_of a v most t = search tested
 
 -- ---- cut
 

@@ -1,6 +1,7 @@
 -- Laws of `parts` and `first_part` (specs/Separated.antt).
 --   empty                               what has no bytes is []
---   part_past                           past the end the first part is empty
+--   part_here, part_on, part_past       the first part of what stands from a place on: at a separator, before another byte, past the end
+--   part_goes_on                        where it is not empty, its first byte is the text's
 --   part_taken                          it is as many bytes of the text
 --   parts_split, parts_on               the parts are the first, and, where a separator ends it, those behind it: what a walk from part to part cites
 --   part_short, part_room, part_within  how long it can be: a part that starts in the text ends in it
@@ -14,12 +15,12 @@ use Rattle.std.specs.Option.{unwrap_or}
 use mathlib.Core.Path.{◌≡◌, refl, sym, ap, ◌∙◌}
 use mathlib.Core.List.{List, [], ◌∷◌}
 use mathlib.Core.Bool.{Bool, true, false, cond, not}
-use Prim.Native.Nat.{ℕ, suc, ◌+◌, ◌-◌, ◌≤◌}
+use Prim.Native.Nat.{ℕ, suc, ◌+◌, ◌-◌, ◌<◌, ◌≤◌}
 use native.Mathlib.Omega.{arith}
 use native.Mathlib.Numerals.{add-one}
 use lib.Dec.{eqb, ltb, leb-suc-suc}
-use lib.ListN.{length, take, drop, length-drop, drop_of_length-le}
-use lib.Seq.{drop-drop, take_all}
+use lib.ListN.{length, get_or, take, drop, length-drop, drop_of_length-le}
+use lib.Seq.{drop-cons, drop-drop, take_all}
 use borrow.Author.Tests.{lt-ltb, le-ltb, ltb-true, ltb-false}
 use Rattle.text.specs.Separated.{onto_first, parts, first_part}
 
@@ -29,9 +30,47 @@ empty (b ∷ bs) e = absurd (omega arith)
 
 -- ---- the first part
 
-pub part_past : (sep : ℕ) (s : List ℕ) (i : ℕ) → length s ≤ i → first_part sep (drop i s) ≡ []
-unfolding first_part
-part_past sep s i h = rw (drop_of_length-le s h)
+module _ (sep b : ℕ) (bs : List ℕ) where
+  first_here : eqb b sep ≡ true → first_part sep (b ∷ bs) ≡ []
+  unfolding first_part
+  first_here e = rw e
+
+  first_on : eqb b sep ≡ false → first_part sep (b ∷ bs) ≡ b ∷ first_part sep bs
+  unfolding first_part
+  first_on e = rw e
+
+module _ (sep : ℕ) (s : List ℕ) (i : ℕ) where
+  pub part_past : length s ≤ i → first_part sep (drop i s) ≡ []
+  unfolding first_part
+  part_past h = rw (drop_of_length-le s h)
+
+  module _ (h : i < length s) where
+    cut : drop i s ≡ get_or s i 0 ∷ drop (i + 1) s
+    cut = rw add-one (drop-cons s i 0 h)
+
+    pub part_here : eqb (get_or s i 0) sep ≡ true → first_part sep (drop i s) ≡ []
+    part_here e = ap (first_part sep) cut ∙ first_here sep (get_or s i 0) (drop (i + 1) s) e
+
+    pub part_on : eqb (get_or s i 0) sep ≡ false → first_part sep (drop i s) ≡ get_or s i 0 ∷ first_part sep (drop (i + 1) s)
+    part_on e = ap (first_part sep) cut ∙ first_on sep (get_or s i 0) (drop (i + 1) s) e
+
+pub record GoesOn (sep : ℕ) (s : List ℕ) (i : ℕ) : Type 0 where
+  pub before_end : i < length s
+  pub part_is : first_part sep (drop i s) ≡ get_or s i 0 ∷ first_part sep (drop (i + 1) s)
+
+module _ (sep : ℕ) (s : List ℕ) (i : ℕ) where
+  pub part_goes_on : 0 < length (first_part sep (drop i s)) → GoesOn sep s i
+  part_goes_on h = by_place (ltb i (length s)) refl
+    where
+      by_byte : (l : i < length s) (t : Bool) → eqb (get_or s i 0) sep ≡ t → GoesOn sep s i
+      by_byte l true e = let none : length (first_part sep (drop i s)) ≡ 0 = ap length (part_here sep s i l e) in absurd (omega arith)
+      by_byte l false e = record { before_end = l; part_is = part_on sep s i l e }
+
+      by_place : (t : Bool) → ltb i (length s) ≡ t → GoesOn sep s i
+      by_place true e = by_byte (ltb-true i (length s) e) (eqb (get_or s i 0) sep) refl
+      by_place false e =
+          let none : length (first_part sep (drop i s)) ≡ 0 = ap length (part_past sep s i (ltb-false i (length s) e)) in
+          absurd (omega arith)
 
 -- ---- it is as many bytes of the text
 
