@@ -1,8 +1,10 @@
 -- Laws of the calls (specs/Counting.antt, specs/Lookup.antt, specs/Adding.antt), by what one pass
 -- through the book finds.
+--   passed_on                      what an exit by `?` returns
 --   told_bad, told_good            what it says of the book
 --   counted, its_cells             how many sheets and cells the code takes from it
---   count_bad .. lookup_newest     what `count` and `lookup` answer at each of their returns
+--   count_bad, count_good          what `count` answers, by them
+--   lookup_bad .. lookup_newest    a lookup, by them
 --   read_is                        what the sheet's reading gives, by `good` alone
 --   add_not_good .. add_laid       what `add` answers and leaves, by what it knows at each of its returns
 -- Assumes nothing.
