@@ -2,6 +2,7 @@
 --   answered_only_if, answered_if, changed_if      a call is carried out exactly if no rule applies
 --   refused_only_if, refused_if, unchanged_if      it is refused with k exactly if the first rule that applies has the number k, and
 --                                                  changes nothing then
+--   first_is_some, numbered_both                   of rules that have numbers (specs/Parts.antt): the first that applies has one; and so have more of them
 --   gives, gives_such, either_way                  whether the number that is given is such a number, as a test that computes on a list of rules: with
 --                                                  `simp` and what is known of some of them, wherever they stand in the list
 --   first_that_applies : EveryCallAnswers, refused_changes_nothing : RefusedChangesNothing (specs/Promises.antt)
@@ -10,9 +11,10 @@
 -- Assumes nothing.
 use mathlib.Core.Path.{◌≡◌, refl, sym, ap, ◌∙◌}
 use mathlib.Core.Bool.{Bool, true, false, cond}
-use mathlib.Core.List.{List, [], ◌∷◌}
+use mathlib.Core.List.{List, [], ◌∷◌, ◌++◌}
 use Prim.Native.Nat.{ℕ}
 use native.Mathlib.Omega.{arith}
+use Rattle.answer.specs.Parts.{Numbered}
 use Rattle.answer.specs.Promises.{Silent, First, this, later, EveryCallAnswers, RefusedChangesNothing}
 use Rattle.answer.specs.Answer.{Answer, refused, answered, Rule, answer, leaves}
 
@@ -61,6 +63,16 @@ refused_if a (later p f) = rw p (refused_if a f)
 pub unchanged_if : {A : Type 0} {k : ℕ} {rs : List Rule} (before after : A) → First k rs → leaves rs before after ≡ before
 unchanged_if before after (this p n) = rw p
 unchanged_if before after (later p f) = rw p (unchanged_if before after f)
+
+-- ---- numbered rules
+
+pub first_is_some : {k : ℕ} {rs : List Rule} → Numbered rs → First k rs → k ≡ 0 → ⊥
+first_is_some some (this p n) e = let z = n ∙ e in omega (arith, some.0, z)
+first_is_some some (later p f) e = first_is_some some.1 f e
+
+pub numbered_both : (rs more : List Rule) → Numbered rs → Numbered more → Numbered (rs ++ more)
+numbered_both [] more some rest = rest
+numbered_both (r ∷ rs) more some rest = (some.0, numbered_both rs more some.1 rest)
 
 -- ---- which number is given
 

@@ -90,7 +90,7 @@ pub year_short : (l : Bool) → before (length_in l) 12 ≤ 32 * 12
 year_short l = (month l 12 (omega arith)).by
 
 module _ (l : Bool) (j : ℕ) (h : j < before (length_in l) 12) where
-  guess_small : j / 32 ≤ 11
+  pub guess_small : j / 32 ≤ 11
   guess_small = omega (arith, year_short l)
 
   pub month_guessed : j < before (length_in l) (j / 32 + 1) → span_of (length_in l) 11 j ≡ j / 32
