@@ -15,6 +15,7 @@ pub use printed::put_decimal;
 
 // A word that should be a number: whether it is decimal without leading zeros, its value, which is
 // 4,294,967,296 for every number beyond 32 bits, and where the word ends.
+// Stays: a flag beside a value: `decimal_at` says of any word what it is worth, also of no number.
 #[derive(Clone, Copy)]
 pub struct Decimal {
     pub ok: bool,
