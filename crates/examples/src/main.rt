@@ -77,7 +77,8 @@ fn sheets(rt: &impl Print) {
             cells,
             turn: 0,
         };
-        if let Some(buf) = [0u8; 24].get_mut(..size) {
+        // 255 at first, as below, so that a zero byte which the writer forgets shows.
+        if let Some(buf) = [255u8; 24].get_mut(..size) {
             write_into(rt, buf, numbers, Entry::of(1, content));
         }
     }
@@ -209,8 +210,8 @@ fn main(rt: HostRuntime) {
     sheets(&rt);
     let fresh = opened(2, 2, 0, 0);
     let day_0 = wrote(fresh, 1, Content::Day(0));
-    sends(&rt, &mut [0u8; 24], "cell 1 day 0", day_0);
-    sends(&rt, &mut [0u8; 24], "nothing", fresh);
+    sends(&rt, &mut [255u8; 24], "cell 1 day 0", day_0);
+    sends(&rt, &mut [255u8; 24], "nothing", fresh);
     takes_nine(&rt);
     one_desk(&rt);
     delivered_at_4(&rt);
