@@ -6,7 +6,7 @@
 --   count_bad, count_good          what `count` answers, by them
 --   lookup_bad .. lookup_newest    a lookup, by them
 --   read_is                        what the sheet's reading gives, by `good` alone
---   add_not_good .. add_laid       what `add` answers and leaves, by what it knows at each of its returns
+--   add_not_good .. add_laid       what `add` answers and leaves, by what it knows at each of its returns; refusing: at an exit by `?`
 -- Assumes nothing.
 use mathlib.Core.Path.{◌≡◌, refl, sym, ap, ◌∙◌}
 use mathlib.Core.Bool.{Bool, true, false, cond, not, ◌&&◌, and-true, and-false}
