@@ -345,7 +345,7 @@ def cells_about(rng, cells):
 
 def far_cells(pieces):
     """The first bytes of a long book's first pieces: cells, where these have entries."""
-    return [piece[0] for piece in pieces[:FRONT]] if len(pieces) > MOST_IN_ROW else []
+    return [piece[0] for piece in pieces[:FRONT] if piece] if len(pieces) > MOST_IN_ROW else []
 
 
 def far_places(rng, pieces):
